@@ -305,7 +305,9 @@ BAD_MODES = [
     b"100664", b"040000", b"0100644", b"00100755", b"100600", b"140000", b"57777777", b"", b"10064a", b"100648", b"0",
     b"1", b"4000", b"400000", b"100645", b"100777", b"120001", b"160001", b"160644", b"40755", b"-100644", b"+40000",
     b"100644\t", b"0x81a4", b"1006440", b"7" * 30, b"040000\0",
-    # the numbers of the five again, were they cut to 16 or to 32 bits
+    # the numbers of the five again, were a digit allowed to be 8 or more
+    b"37778", b"117778", b"157778", b"78644", b"78755", b"10063<", b"1005<4",
+    # and were a number cut to 16 or to 32 bits
     b"300644", b"300755", b"240000", b"320000", b"360000", b"40000040000", b"40000100644", b"100000000000100644",
 ]
 
@@ -490,8 +492,9 @@ def make():
     cases = [f"{a}{x.hex()} {b}{y.hex()}" for a, x, b, y in pairs] + ["r" + raw.hex() for _, raw in trees]
     if max(map(len, cases)) >= LONGEST_LINE:
         raise SystemExit("a case is longer than the program's buffer")
-    given = "".join(case + "\n" for case in cases)
-    wanted = "".join(answer + "\n" for answer in pair_answers + tree_answers)
+    # The last lines show that a line that breaks the form stops the program.
+    given = "".join(case + "\n" for case in cases + ["x", "f61 f62"])
+    wanted = "".join(answer + "\n" for answer in pair_answers + tree_answers + ["bad line"])
     return given, wanted, table(version, pair_answers, trees, tree_answers, ways), version
 
 
@@ -507,7 +510,7 @@ def main():
             wrong.append(str(DOC.relative_to(ROOT)))
         if wrong:
             raise SystemExit("what Git " + version + " says differs from " + ", ".join(wrong))
-        print(f"git vectors: {wanted.count(chr(10))} cases are as Git {version} judges them")
+        print(f"git vectors: {wanted.count(chr(10)) - 1} cases are as Git {version} judges them")
     elif sys.argv[1:] == []:
         STDIN.write_text(given)
         STDOUT.write_text(wanted)
