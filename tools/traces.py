@@ -1,12 +1,12 @@
 #!/usr/bin/env python3
 """A seeded generator of traces in the protocol of oracle/PROTOCOL.md.
 
-    traces.py [--seed N] [--count N] [--kind normal|limits|write|all] [--length N]
+    traces.py [--seed N] [--count N] [--kind normal|limits|write|all] [--length N] [--most BYTES]
 
 normal: few names that collide, tables with good, damaged and missing trees, refused paths, stale cursors, bad tables.
 limits: stores near one of the limits of room, so that number 5 comes at different steps.
 write: writes from the root and from cursors, short output, other calls in between, failure at each request.
-The generator follows the state with tools/model01.py, only to aim well: a wrong model would make dull traces, no more.
+--most leaves out traces with more text than that. The generator follows the state with tools/model01.py, only to aim well: a wrong model would make dull traces, no more.
 """
 import argparse
 import random
@@ -133,7 +133,10 @@ class Maker:
         return bytes(self.r.randrange(256) for _ in range(self.r.randrange(1, 40)))
 
     def big_raw(self):
-        """Trees at or past a limit of room."""
+        """Trees at or past a limit of room; a few are damaged behind that."""
+        return self.big_good() + (b"x" if self.r.random() < 0.15 else b"")
+
+    def big_good(self):
         b = self.r.choice(BLOB_IDS)
         k = self.r.randrange(6)
         if k < 2:
@@ -479,9 +482,12 @@ def main():
     p.add_argument("--count", type=int, default=100)
     p.add_argument("--kind", choices=sorted(KINDS) + ["all"], default="all")
     p.add_argument("--length", type=int, default=25)
+    p.add_argument("--most", type=int)
     o = p.parse_args()
     for number in range(o.count):
-        sys.stdout.write("\n".join(make(o.kind, o.seed, number, o.length)) + "\n")
+        text = "\n".join(make(o.kind, o.seed, number, o.length)) + "\n"
+        if o.most is None or len(text) <= o.most:
+            sys.stdout.write(text)
 
 
 if __name__ == "__main__":
