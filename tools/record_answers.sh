@@ -9,7 +9,7 @@ shows() {  # full dumps at some calls only, to keep the file small
   awk '/^trace /{print; print "dump off"; next} /^dump/{next} {print} NR % 6 == 0 && !/^object|^table/{print "show"}'
 }
 {
-  grep -v '^#' tests/data/cases.txt | grep .
+  python3 tools/cases.py | grep -v '^#' | grep .
   python3 tools/traces.py --seed 2026 --count 150 --kind normal --length 16 --most 3000 | shows
   python3 tools/traces.py --seed 2026 --count 90 --kind write --length 16 --most 4000 | shows
   python3 tools/traces.py --seed 2026 --count 60 --kind limits --length 20 --most 12000 | grep -v '^show'

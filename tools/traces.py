@@ -145,7 +145,7 @@ class Maker:
             return raw_of([(b"100644", b"%02d" % n + b"n" * 253, b) for n in range(64)]
                           + [(b"100644", b"x" * (64 + k - 2), b)])
         if k == 4:
-            return raw_of([(b"100644", b"%03d" % n, b) for n in range(self.r.choice([990, 1000, 1020]))])
+            return raw_of([(b"100644", b"%04d" % n, b) for n in range(self.r.choice([990, 1000, 1020]))])
         return raw_of([(b"100644", b"%03d" % n + b"n" * 252, b) for n in range(self.r.choice([60, 63, 64]))])
 
     def build_table(self, n, big=0.02):
