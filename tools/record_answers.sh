@@ -1,6 +1,6 @@
 #!/usr/bin/env bash
-# Makes tests/data/oracle-answers.txt anew: the oracle's answers to a fixed list of calls.
-# Needs cargo; everything else in the gate replays the file without Rust.
+# Makes tests/data/oracle-answers.txt and small-answers.txt anew: the oracle's answers to fixed lists of calls and inputs.
+# Needs cargo; everything else in the gate replays the files without Rust.
 set -euo pipefail
 cd "$(dirname "$0")/.."
 (cd oracle && cargo build --offline --release -q -j1)
@@ -17,3 +17,4 @@ shows() {  # full dumps at some calls only, to keep the file small
 python3 tools/compare_traces.py --record tests/data/oracle-answers.txt \
   --header "The answers of the oracle (oracle/README.md) to a fixed list of calls.|Made by tools/record_answers.sh; read and replayed by tools/compare_traces.py --replay." \
   target/fixed-list.txt -- oracle/target/release/oracle-trace
+python3 tools/compare_small.py --record tests/data/small-answers.txt -- oracle/target/release/oracle-small
