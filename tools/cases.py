@@ -143,6 +143,22 @@ def writes():
          "setroot -", "begin .", "begin " + h("x"), "finish .", "answer " + B, "answer " + B, "fail", "read 0")
 
 
+def comments():
+    """Where the original's comments say other than its code (docs/DIFFERENCES.md)."""
+    d = "d1" * 20
+    loaded = ["object %s %s" % (d, raw(("100644", "b", B))), "new " + raw(("40000", "a", d))]
+    case("comment-empty-string", "An empty component is refused; no component stands at the root", "new -", "cursor " + h("/"),
+         "cursor -")
+    case("comment-null", "A path through a null placeholder looks the null id up", "new -", up("a", "40000", N), up("a/b"))
+    case("comment-only-changed", "A loaded tree is requested though nothing in it was changed", *loaded,
+         "remove . " + h("a/x"), "begin .")
+    case("comment-created", "A tree that the table lacks is not created", "new " + raw(("40000", "a", d)), up("a/b"))
+    case("comment-once", "After a write a tree is looked up again", *loaded, "remove . " + h("a/x"), "begin .", "answer " + d,
+         "answer " + d, "table - - -", "remove . " + h("a/x"))
+    case("comment-root-remains", "After a cursor's write trees beside it stay", "new -", up("a/b"), up("b/c"), "finish " + h("a"),
+         "get . " + h("b/c"))
+
+
 if __name__ == "__main__":
     twelve()
     paths()
@@ -150,3 +166,4 @@ if __name__ == "__main__":
     orders()
     damage()
     writes()
+    comments()
