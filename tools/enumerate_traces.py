@@ -3,8 +3,9 @@
 
     enumerate_traces.py [--alphabet edits|cursors|writes|FILE] [--length N] [--start NAME] [--list]
 
-A FILE has one call a line. Each trace first fills the table and makes an editor over the start root: `empty`, `mixed`
-(a tree and a file that collide, a tree that is in the table) or `all` (both, the default).
+A FILE has one call a line. Each trace first fills the table and makes an editor over the start: `empty`, `mixed` (a tree
+and a file that collide, a tree that is in the table), `cached` (six cached trees, one empty, one with a null entry, one
+without an entry of its own) or `all` (the default).
 """
 import argparse
 import itertools
@@ -21,7 +22,7 @@ def tree(*entries):
 
 TABLE = [(D, tree((b"100644", b"b", B), (b"40000", b"e", EMPTY_TREE))),
          (BROKEN, tree((b"100644", b"a", B), (b"100644", b"a.c", B), (b"40000", b"a", B)))]
-STARTS = {"empty": b"", "mixed": tree((b"100644", b"a.c", B), (b"40000", b"a", D), (b"40000", b"x", BROKEN))}
+MIXED = tree((b"100644", b"a.c", B), (b"40000", b"a", D), (b"40000", b"x", BROKEN))
 
 
 def h(text):
@@ -32,6 +33,12 @@ def up(prefix, path, mode, ident):
     return "upsert %s %s %s %s" % (prefix, h(path), mode, ident.hex())
 
 
+STARTS = {
+    "empty": ["new -"],
+    "mixed": ["new " + out_hex(MIXED)],
+    "cached": ["new -", up(".", "a/b/c", "100644", B), up(".", "q/r", "100644", NULL), up(".", "q/s", "100644", B),
+               "cursor " + h("q/t"), up(".", "z/y", "100644", B), "remove . " + h("z")],
+}
 ALPHABETS = {
     "edits": [
         up(".", "a", "100644", B), up(".", "a", "40000", D), up(".", "a", "40000", NULL), up(".", "a", "40000", EMPTY_TREE),
@@ -59,7 +66,7 @@ def main():
     p = argparse.ArgumentParser(usage=__doc__)
     p.add_argument("--alphabet", default="edits")
     p.add_argument("--length", type=int, default=3)
-    p.add_argument("--start", choices=["empty", "mixed", "all"], default="all")
+    p.add_argument("--start", choices=sorted(STARTS) + ["all"], default="all")
     p.add_argument("--list", action="store_true")
     o = p.parse_args()
     if o.alphabet in ALPHABETS:
@@ -71,11 +78,11 @@ def main():
         print("\n".join(calls))
         return
     table = "".join("object %s %s\n" % (i.hex(), out_hex(r)) for i, r in TABLE)
-    for start in ("empty", "mixed") if o.start == "all" else (o.start,):
+    for start in sorted(STARTS) if o.start == "all" else (o.start,):
+        before = table + "\n".join(STARTS[start])
         for at in itertools.product(range(len(calls)), repeat=o.length):
             label = "%s-%s-%s" % (o.alphabet if o.alphabet in ALPHABETS else "file", start, ".".join(map(str, at)))
-            sys.stdout.write("trace %s\n%snew %s\n%s\n" % (label, table, out_hex(STARTS[start]),
-                                                          "\n".join(calls[k] for k in at)))
+            sys.stdout.write("trace %s\n%s\n%s\n" % (label, before, "\n".join(calls[k] for k in at)))
 
 
 if __name__ == "__main__":
