@@ -13,7 +13,7 @@ use lib.Seq.{take-at, drop-at, getD-at, split-at, take-suc, take-length}
 use Rattle.model.proofs.Basics.{and-left, and-right}
 use Rattle.model.specs.Bytes.{Bytes, has, isNil}
 use Rattle.model.specs.Tree.{Mode, TREE, BLOB, EXEC, LINK, COMMIT, isTree, Entry, Tree, goodName, goodEntries, nameBytes}
-use Rattle.names.specs.Compact.{kindOf, modeAt, packed, packedAll, unpackIn, unpack, Wide, Packs, Run, offset, blank, entryAt}
+use Rattle.names.specs.Compact.{kindOf, modeAt, packed, packedAll, unpackIn, unpack, Wide, Run, offset, blank, entryAt}
 
 pub mode-kind : (m : Mode) → modeAt (kindOf m) ≡ m
 unfolding modeAt kindOf
@@ -44,10 +44,6 @@ wide-good w (e ∷ es) g = (
   eqb-true (length (e .id)) w (and-right (goodName (e .name)) (eqb (length (e .id)) w) (and-left (goodName (e .name) && eqb (length (e .id)) w) (goodEntries w es) g)),
   wide-good w es (and-right (goodName (e .name) && eqb (length (e .id)) w) (goodEntries w es) g),
 )
-
-pub wide-append : (w : ℕ) (s t : Tree) → Wide w s → Wide w t → Wide w (s ++ t)
-wide-append w [] t none v = v
-wide-append w (e ∷ es) t (h, u) v = (h, wide-append w es t u v)
 
 pub packed-length : (w : ℕ) (e : Entry) → length (e .id) ≡ w → length (packed e) ≡ 2 + w + length (e .name)
 packed-length w e h = omega (arith, length-append (e .id) (e .name))
@@ -85,8 +81,11 @@ pub unpacked : (w : ℕ) (t : Tree) → Wide w t → unpack w (packedAll t) ≡ 
 unfolding unpack
 unpacked w t u = unpacked-in (length (packedAll t)) w t u (omega arith)
 
-pub packs-is : (w : ℕ) (b : Bytes) (t : Tree) → Packs w b t → unpack w b ≡ t
-packs-is w b t p = ap (unpack w) (p .bytes) ∙ unpacked w t (p .ids)
+-- and is a run, where the tree's names and ids are good
+pub packed-run : (w : ℕ) (t : Tree) → goodEntries w t ≡ true → Run w (packedAll t)
+packed-run w t g =
+    let e = unpacked w t (wide-good w t g) in
+    record { bytes = ap packedAll (sym e); good = ap (goodEntries w) e ∙ g }
 
 -- ---- an entry where it lies
 

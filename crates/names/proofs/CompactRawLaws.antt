@@ -9,6 +9,7 @@ use lib.Seq.{take-suc, take-length}
 use Rattle.model.specs.Bytes.{Bytes}
 use Rattle.model.specs.Tree.{Mode, TREE, BLOB, EXEC, LINK, COMMIT, Entry, Tree}
 use Rattle.model.specs.Raw.{octal, rawEntry, rawTree}
+use Rattle.model.proofs.ValidLaws.{octal-length}
 use Rattle.names.specs.Answers.{asMode, entry}
 use Rattle.names.specs.Compact.{kindOf, unpack, Run, blank, entryAt, offset}
 use Rattle.names.specs.Splice.{splice}
@@ -32,14 +33,6 @@ octal-other EXEC n = refl
 octal-other LINK n = refl
 octal-other COMMIT n = refl
 
-octal-most : (m : Mode) → length (octal m) ≤ 6
-unfolding octal
-octal-most TREE = omega arith
-octal-most BLOB = omega arith
-octal-most EXEC = omega arith
-octal-most LINK = omega arith
-octal-most COMMIT = omega arith
-
 -- how long the raw form of an entry is, told by its kind and its name where they lie
 module _ {w : ℕ} {b : Bytes} {i a : ℕ} (m : Mark w b i a) (r : Run w b) (h : i < length (unpack w b)) where
   abbrev x : Entry
@@ -55,7 +48,7 @@ module _ {w : ℕ} {b : Bytes} {i a : ℕ} (m : Mark w b i a) (r : Run w b) (h :
   raw-other n = omega (arith, raw-is, octal-other (x .mode) (λ e. n (m .kind ∙ e)), m .word)
 
   raw-most : length (rawEntry x) ≤ 8 + getD b (a + 1) 0 + w
-  raw-most = omega (arith, raw-is, octal-most (x .mode), m .word)
+  raw-most = omega (arith, raw-is, octal-length (x .mode), m .word)
 
 raw-next : (t : Tree) (i : ℕ) → i < length t → rawTree (take (i + 1) t) ≡ rawTree (take i t ++ (getD t i blank ∷ []))
 raw-next t i h = ap (λ (n : ℕ). rawTree (take n t)) (add-one i) ∙ ap rawTree (take-suc t i blank h)

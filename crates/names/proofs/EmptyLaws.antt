@@ -27,10 +27,6 @@ and-no : (s x : Bool) → ((s && false) || x) ≡ x
 and-no true x = refl
 and-no false x = refl
 
-and-yes : (s x : Bool) → ((s && true) || x) ≡ (s || x)
-and-yes true x = refl
-and-yes false x = refl
-
 empty-all : (cs : List Bytes) → emptyPieces true cs ≡ someEmpty cs
 empty-all [] = refl
 empty-all (c ∷ cs) = refl

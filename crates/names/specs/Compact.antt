@@ -49,11 +49,6 @@ unpack w b = unpackIn (length b) w b
 abbrev pub Wide : ℕ → Tree → Type 0
 Wide w t = All (λ e. length (e .id) ≡ w) t
 
--- the run is the packed form of the tree
-pub record Packs (w : ℕ) (b : Bytes) (t : Tree) : Type 0 where
-  pub bytes : b ≡ packedAll t
-  pub ids : Wide w t
-
 -- the run is the packed form of the tree it holds, whose names and ids are good
 pub record Run (w : ℕ) (b : Bytes) : Type 0 where
   pub bytes : b ≡ packedAll (unpack w b)
