@@ -3,7 +3,6 @@ use Prim.Native.Nat.{ℕ}
 use mathlib.Core.List.{List, [], _∷_, _++_}
 use mathlib.Core.Option.{none}
 use lib.ListN.{length, replicate}
-use Rattle.model.specs.Bytes.{Bytes}
 use Rattle.model.specs.Tree.{TREE, BLOB, Tree}
 use Rattle.model.specs.Raw.{rawTree}
 use Rattle.model.specs.Table.{Table}
