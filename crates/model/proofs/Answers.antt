@@ -19,7 +19,7 @@ use Rattle.model.specs.Write.{unlinked, linked, finished, taken, noTree,
 use Rattle.model.specs.Valid.{takenGood, everyTree, rootHeld, writeGood, valid}
 use Rattle.model.specs.Script.{act, andThen, comes, up, file, folder, X, Z, B, allValid}
 use Rattle.model.specs.Cases.{cases}
-use Rattle.model.specs.Edges.{answers, names, paths, trees, ramp, long, chain, startThen, rootThen}
+use Rattle.model.specs.Edges.{answers, names, paths, prefixes, trees, ramp, long, chain, startThen, rootThen}
 use Rattle.model.specs.Traps.{traps, numbersOf, full, three}
 
 -- the definitions that the computing looks through: to unfold `computing` is to unfold them all
@@ -39,10 +39,15 @@ pub the-names : map answers names ≡ map (λ e. e .want) names
 unfolding computing answers names
 the-names = refl
 
--- paths of 1,024 and 1,025 bytes; below a prefix of 1,000 bytes, paths of 23 and 24
+-- paths of 1,024 and 1,025 bytes
 pub the-paths : map answers paths ≡ map (λ e. e .want) paths
 unfolding computing answers paths
 the-paths = refl
+
+-- below a prefix of 1,000 bytes, paths of 23 and 24 bytes
+pub the-prefixes : map answers prefixes ≡ map (λ e. e .want) prefixes
+unfolding computing answers prefixes
+the-prefixes = refl
 
 -- the 65th tree
 pub the-trees : map answers trees ≡ map (λ e. e .want) trees

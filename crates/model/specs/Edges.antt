@@ -38,12 +38,17 @@ names =
     ∷ record { acts = up (times 256) ∷ []; want = 6 ∷ [] }
     ∷ []
 
--- a path of 1,024 bytes, and one of 1,025; below a prefix of 1,000 bytes a path of 23, and one of 24
+-- a path of 1,024 bytes, and one of 1,025
 unfoldable pub paths : List Edge
 paths =
     record { acts = up (pathOf (255 ∷ 255 ∷ 255 ∷ 254 ∷ 1 ∷ [])) ∷ []; want = 0 ∷ [] }
     ∷ record { acts = up (pathOf (255 ∷ 255 ∷ 255 ∷ 255 ∷ 1 ∷ [])) ∷ []; want = 6 ∷ [] }
-    ∷ record { acts = cursor (pathOf (255 ∷ 255 ∷ 255 ∷ 232 ∷ [])) ∷ under (pathOf (255 ∷ 255 ∷ 255 ∷ 232 ∷ [])) (upsert BLOB B) (times 23) ∷ under (pathOf (255 ∷ 255 ∷ 255 ∷ 232 ∷ [])) (upsert BLOB B) (times 24) ∷ []; want = 0 ∷ 0 ∷ 6 ∷ [] }
+    ∷ []
+
+-- below a prefix of 1,000 bytes, a path of 23 bytes, and one of 24
+unfoldable pub prefixes : List Edge
+prefixes =
+    record { acts = cursor (pathOf (255 ∷ 255 ∷ 255 ∷ 232 ∷ [])) ∷ under (pathOf (255 ∷ 255 ∷ 255 ∷ 232 ∷ [])) (upsert BLOB B) (times 23) ∷ under (pathOf (255 ∷ 255 ∷ 255 ∷ 232 ∷ [])) (upsert BLOB B) (times 24) ∷ []; want = 0 ∷ 0 ∷ 6 ∷ [] }
     ∷ []
 
 -- 64 components are the root and 63 trees below it: another tree would be the 65th, and so would that of one component more
