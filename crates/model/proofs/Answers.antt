@@ -17,7 +17,8 @@ use Rattle.model.specs.Calls.{refuseIf, settled, edited, opened, rootOnl
 use Rattle.model.specs.Lookup.{lookOn, looked, found, missing, refusal}
 use Rattle.model.specs.Write.{unlinked, linked, finished, taken, noTree, asking, writeOf, begunAt, begun, closed, answeredIn, answered, failed, requested, show, shown, short, unopened}
 use Rattle.model.specs.Valid.{takenGood, everyTree, rootHeld, writeGood, valid}
-use Rattle.model.specs.Script.{act, andThen, comes, up, file, folder, X, Z, B, allValid}
+use Rattle.model.specs.Written.{written}
+use Rattle.model.specs.Script.{act, andThen, comes, noTable, no#, up, file, folder, X, Z, B, allValid}
 use Rattle.model.specs.Cases.{cases}
 use Rattle.model.specs.Edges.{answers, names, paths, prefixes, trees, ramp, long, chain, startThen, rootThen}
 use Rattle.model.specs.Traps.{traps, numbersOf, full, three}
@@ -34,25 +35,10 @@ pub the-cases : map comes cases ≡ map (λ c. c .want) cases
 unfolding computing cases
 the-cases = refl
 
--- The edge lines. Names of 255 and 256 bytes
-pub the-names : map answers names ≡ map (λ e. e .want) names
-unfolding computing answers names
-the-names = refl
-
--- paths of 1,024 and 1,025 bytes
-pub the-paths : map answers paths ≡ map (λ e. e .want) paths
-unfolding computing answers paths
-the-paths = refl
-
--- below a prefix of 1,000 bytes, paths of 23 and 24 bytes
-pub the-prefixes : map answers prefixes ≡ map (λ e. e .want) prefixes
-unfolding computing answers prefixes
-the-prefixes = refl
-
--- the 65th tree
-pub the-trees : map answers trees ≡ map (λ e. e .want) trees
-unfolding computing answers trees
-the-trees = refl
+-- The edge lines: names of 255 and 256 bytes; paths of 1,024 and 1,025; below a prefix of 1,000, paths of 23 and 24; the 65th tree
+pub the-edges : map answers (names ++ paths ++ prefixes ++ trees) ≡ map (λ e. e .want) (names ++ paths ++ prefixes ++ trees)
+unfolding computing answers names paths prefixes trees
+the-edges = refl
 
 -- The other limits. 1,023 entries and one more are 1,024
 pub entries-full : startThen (ramp 1023 0) (up (98 ∷ []) ∷ up (99 ∷ []) ∷ up (98 ∷ []) ∷ []) ≡ 0 ∷ 5 ∷ 0 ∷ []
@@ -106,6 +92,12 @@ shown-or-short = refl
 pub none-open : show 45056 three ≡ unopened
 unfolding computing
 none-open = refl
+
+-- The small program's example: for one upsert of `a/b` the requests are `a`, then the root with the id that was answered for `a`
+pub the-small-program : written sha1 (no# 1 ∷ no# 2 ∷ []) fromRoot ((act noTable (up (97 ∷ 47 ∷ 98 ∷ [])) (rootOnly [])) .editor)
+    ≡ (97 ∷ [], 49 ∷ 48 ∷ 48 ∷ 54 ∷ 52 ∷ 52 ∷ 32 ∷ 98 ∷ 0 ∷ B) ∷ ([], 52 ∷ 48 ∷ 48 ∷ 48 ∷ 48 ∷ 32 ∷ 97 ∷ 0 ∷ no# 1) ∷ []
+unfolding computing written
+the-small-program = refl
 
 -- Every editor on the way of every case and trap is valid
 pub the-cases-valid : allValid (cases ++ traps) ≡ true
