@@ -4,12 +4,15 @@ use Prim.Native.Nat.{ℕ, suc, _+_, _≤_, _<_, Ordering·lt}
 use mathlib.Core.Path.{_≡_, refl, sym, ap, _∙_, subst}
 use mathlib.Core.List.{[], _∷_}
 use mathlib.Core.Option.{Option, none, some}
-use mathlib.Core.Bool.{Bool, true, false, cond, not, _&&_, _||_, true≢false, false≢true}
+use mathlib.Core.Bool.{Bool, true, false, cond, not, _&&_, _||_, false≢true}
 use native.Mathlib.Nat.{add-zero, zero-add}
 use native.Mathlib.Omega.{arith}
+use lib.Dec.{eqb}
 use lib.ListN.{length}
+use borrow.Author.Tests.{eq-eqb}
 use Rattle.model.specs.Bytes.{Bytes, cmp, by, same}
-use Rattle.model.specs.Tree.{isTree, Entry, Tree, asKind, key, goodName, among, nameBytes}
+use Rattle.model.specs.Map.{risingFrom}
+use Rattle.model.specs.Tree.{isTree, Entry, Tree, asKind, key, goodName, among, distinct, goodEntries, wellFormed, nameBytes}
 use Rattle.model.specs.Raw.{more, ifGood}
 use Rattle.model.proofs.Basics.{none-some, some-inj, and-left, and-right}
 use Rattle.model.proofs.ByteLaws.{same-eq}
@@ -21,7 +24,6 @@ use Rattle.names.specs.declared.neighbour.Standing.{Standing}
 use Rattle.names.specs.declared.neighbour.Standing.the-variants.{Apart, Within, Wrong}
 use Rattle.names.specs.declared.order.Order.{Order}
 use Rattle.names.specs.declared.order.Order.the-variants.{Less, Equal, Greater}
-use Rattle.names.proofs.CheckLaws.{well-is}
 use Rattle.names.proofs.FollowLaws.{is-less, after-less, after-all, Proper, proper, none-after, early}
 use Rattle.names.proofs.StandingLaws.{good-plain, and-no}
 
@@ -69,6 +71,42 @@ module _ {later : Option Tree} {name : Bytes} {here : Option Tree} (s : Twinning
 
     pub twin-greater : o ≡ Greater → TwinIs name later false
     twin-greater f = record { is = λ es p. let x = next-one es p in sym (x .2 ∙ ap (λ (q : Order). by (asOrdering q) (treeAmong name (x .0)) true false) f) }
+
+-- The check follows the entries: a tree is well formed exactly if its entries may follow nothing.
+six-tests : (a b c d e f g : Bool) → b ≡ true → ((a && b && c) && (d && e) && (f && g)) ≡ (a && (d && (f && (c && e && g))))
+six-tests true b true true true true g h = rw h
+six-tests true b true true true false g h = rw h
+six-tests true b true true false true g h = rw h
+six-tests true b true true false false g h = rw h
+six-tests true b true false e f g h = rw h
+six-tests true b false true e true g h = rw h
+six-tests true b false true e false g h = rw h
+six-tests true b false false e f g h = rw h
+six-tests false b c d e f g h = refl
+
+well-from : (w : ℕ) (k : Bytes) (t : Tree) → Wide w t → (goodEntries w t && risingFrom key k t && distinct (namesOf t)) ≡ wellAfter k t
+unfolding wellAfter
+well-from w k [] h = refl
+well-from w k (e ∷ es) h =
+    six-tests (goodName (e .name)) (eqb (length (e .id)) w) (goodEntries w es) (isLess (cmp k (key e))) (risingFrom key (key e) es) (not (among (e .name) (namesOf es))) (distinct (namesOf es)) (eq-eqb (length (e .id)) w (h .0))
+    ∙ ap (λ (z : Bool). goodName (e .name) && (isLess (cmp k (key e)) && (not (among (e .name) (namesOf es)) && z))) (well-from w (key e) es (h .1))
+
+-- nothing is before every good name
+first-above : (n : Bytes) (tree : Bool) → goodName n ≡ true → cmp [] (asKind tree n) ≡ Ordering·lt
+unfolding goodName
+first-above [] tree h = absurd (let z : _≡_ {A = ℕ} 0 1 = cc in omega arith)
+first-above (x ∷ n) true h = refl
+first-above (x ∷ n) false h = refl
+
+pub well-is : (w : ℕ) (t : Tree) → Wide w t → wellFormed w t ≡ wellAfter [] t
+unfolding wellFormed
+well-is w [] h = well-from w [] [] h
+well-is w (e ∷ es) h = go (goodName (e .name)) refl ∙ well-from w [] (e ∷ es) h
+  where
+    go : (b : Bool) → goodName (e .name) ≡ b →
+        (goodEntries w (e ∷ es) && risingFrom key (key e) es && distinct (namesOf (e ∷ es))) ≡ (goodEntries w (e ∷ es) && (isLess (cmp [] (key e)) && risingFrom key (key e) es) && distinct (namesOf (e ∷ es)))
+    go true g = rw (first-above (e .name) (isTree (e .mode)) g)
+    go false g = rw g
 
 -- Whether an entry fits, from how it stands to the one before it.
 besides-less : (p : Bytes) (pt : Bool) (n : Bytes) (t : Bool) → besides p pt n t ≡ true → cmp (asKind pt p) (asKind t n) ≡ Ordering·lt

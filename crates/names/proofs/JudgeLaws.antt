@@ -3,7 +3,7 @@ use Prim.Native.Nat.{ℕ, zero, suc, _+_, _-_, _≤_, _<_}
 use mathlib.Core.Path.{_≡_, refl, sym, ap, _∙_, subst}
 use mathlib.Core.List.{[], _∷_, _++_, append-assoc}
 use mathlib.Core.Option.{Option, none, some}
-use mathlib.Core.Bool.{Bool, true, false, cond, _&&_, true≢false}
+use mathlib.Core.Bool.{Bool, true, false, cond, _&&_}
 use native.Mathlib.Nat.{add-zero}
 use native.Mathlib.Numerals.{add-one}
 use native.Mathlib.Omega.{arith}
@@ -14,12 +14,12 @@ use borrow.Author.Tests.{le-leb, lt-leb, leb-true, lt-ltb, le-ltb, ltb-true, ne-
 use Rattle.model.specs.Bytes.{Bytes, cmp, same}
 use Rattle.model.specs.Tree.{Mode, TREE, BLOB, EXEC, LINK, COMMIT, isTree, Entry, Tree, asKind, key, wellFormed}
 use Rattle.model.specs.Raw.{more, ifGood}
-use Rattle.model.proofs.Basics.{none-some, some-inj, and-left, and-right}
+use Rattle.model.proofs.Basics.{none-some, some-inj}
 use Rattle.model.proofs.ByteLaws.{same-eq, same-refl}
 use Rattle.model.proofs.RawLaws.{more-inv, well-entries}
-use Rattle.names.specs.Compact.{kindOf, modeAt, packed, packedAll, unpack, Wide, Packs, Run}
+use Rattle.names.specs.Compact.{kindOf, modeAt, packed, packedAll, unpack, Wide}
 use Rattle.names.specs.Judge.{endAt, endAs, entryHeld, heldNext, heldFrom, heldAt, compactTree}
-use Rattle.names.proofs.CompactLaws.{mode-kind, wide-good, packs-is, packed-cons}
+use Rattle.names.proofs.CompactLaws.{mode-kind, wide-good, unpacked}
 use Rattle.names.specs.declared.judge.End.{End}
 use Rattle.names.specs.declared.judge.End.the-variants.{To, Damaged}
 use Rattle.names.proofs.FitLaws.{Begins}
@@ -191,9 +191,9 @@ from-bytes (suc most) b w at t q = go (from-bytes most b w) (leb (length b) at) 
         subst (λ (s : Tree). (packedAll s ≡ drop at b) × Wide w s) z
         (ap (λ (l : Bytes). packed (entryHeld b w at) ++ l) x ∙ entry-packed b w at next (ends b w at e), (entry-wide b w at next (ends b w at e), y))
 
-pub held-packs : (b : Bytes) (w : ℕ) (t : Tree) → heldAt b w 0 ≡ some t → Packs w b t
+pub held-packs : (b : Bytes) (w : ℕ) (t : Tree) → heldAt b w 0 ≡ some t → (b ≡ packedAll t) × Wide w t
 unfolding heldAt
-held-packs b w t q = let x = from-bytes (suc (length b - 0)) b w 0 t q in record { bytes = sym (x .0); ids = x .1 }
+held-packs b w t q = let x = from-bytes (suc (length b - 0)) b w 0 t q in (sym (x .0), x .1)
 
 -- From the entries to their bytes: what stands there is found.
 module _ (b : Bytes) (w at : ℕ) (e : Entry) (rest : Bytes) (here : drop at b ≡ packed e ++ rest) (wide : length (e .id) ≡ w) where
@@ -257,6 +257,6 @@ compact-is w b = go (heldAt b w 0) refl
     go none e = damaged e (same b (packedAll (unpack w b))) refl
     go (some t) e =
         let p = held-packs b w t e in
-        let u : unpack w b ≡ t = packs-is w b t p in
-        let q : same b (packedAll (unpack w b)) ≡ true = ap (λ (s : Tree). same b (packedAll s)) u ∙ ap (same b) (sym (p .bytes)) ∙ same-refl b in
+        let u : unpack w b ≡ t = ap (unpack w) (p .0) ∙ unpacked w t (p .1) in
+        let q : same b (packedAll (unpack w b)) ≡ true = ap (λ (s : Tree). same b (packedAll s)) u ∙ ap (same b) (sym (p .0)) ∙ same-refl b in
         ap (λ (x : Bool). cond x (ifGood w (some (unpack w b))) none) q ∙ ap (λ (s : Tree). ifGood w (some s)) u

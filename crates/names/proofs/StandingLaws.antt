@@ -5,21 +5,18 @@ use mathlib.Core.List.{[], _∷_, _++_}
 use mathlib.Core.Bool.{Bool, true, false, not, _&&_, true≢false, false≢true}
 use native.Mathlib.Numerals.{add-one}
 use native.Mathlib.Omega.{arith}
-use lib.Dec.{leb}
 use lib.ListN.{length, take, drop, getD, length-append, take-append-drop, drop-of-length-le}
 use lib.Seq.{take-suc, drop-cons, take-append-le}
 use borrow.Author.Tests.{le-leb, not-true}
-use Rattle.model.specs.Bytes.{Bytes, cmp, by, same, has, isNil}
+use Rattle.model.specs.Bytes.{Bytes, cmp, by, same, has}
 use Rattle.model.specs.Tree.{asKind, goodName}
 use Rattle.model.proofs.Basics.{and-left, and-right}
 use Rattle.model.proofs.ByteLaws.{compare-same, has-here, has-past}
 use Rattle.model.proofs.RawLaws.{name-no-nul}
 use Rattle.model.proofs.SoundTrees.{name-plain}
 use Rattle.names.proofs.OrderLaws.{in-name, after-name, Comparing, ends-left, ends-right, ends-both, byte-less, byte-more}
-use Rattle.names.proofs.NameLaws.{name-empty, name-long}
-use Rattle.names.specs.Check.{isLess, Shorter, Shares, plain, besides}
+use Rattle.names.specs.Check.{Shorter, Shares, plain, besides}
 use Rattle.names.specs.Standings.{StandsIn}
-use Rattle.names.specs.declared.neighbour.Standing.{Standing}
 use Rattle.names.specs.declared.neighbour.Standing.the-variants.{Apart, Within, Wrong}
 
 pub and-no : (b : Bool) → (b && false) ≡ false

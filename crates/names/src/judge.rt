@@ -67,7 +67,7 @@ fn has_twin(tree: &[u8], width: usize, from: usize, name: &[u8]) -> bool
 }
 
 // Whether an entry may follow the one before it, where the entries from `next` on are well formed.
-fn follows(
+fn may_follow(
     tree: &[u8],
     width: usize,
     next: usize,
@@ -108,7 +108,7 @@ pub fn judge(tree: &[u8], width: usize) -> Checked
         let a = at + 2 + width;
         let name = &tree[a..next];
         let is_tree = tree[at] == 0;
-        if follows(tree, width, next, prev, prev_tree, name, is_tree) {
+        if may_follow(tree, width, next, prev, prev_tree, name, is_tree) {
             entries += 1;
             name_bytes += name.len();
             prev = name;

@@ -21,7 +21,7 @@ front-requires : tie.Need-front-requires Inv-loop μ-loop
 front-requires c κs = search needs
 
 loop-holds : tie.Need-loop-holds Inv-loop μ-loop
-loop-holds c = check-begin _ _ (ap sizeOf (compact-is _ _)) (λ ts q. held-packs _ _ ts q .ids) (c .front .ensures)
+loop-holds c = check-begin _ _ (ap sizeOf (compact-is _ _)) (λ ts q. held-packs _ _ ts q .1) (c .front .ensures)
 
 end-of-requires : tie.Need-end-of-requires Inv-loop μ-loop
 end-of-requires c κs = search needs
@@ -65,15 +65,15 @@ part-name-end c =
 shared-slice-read-is-tree : tie.Need-shared-slice-read-is-tree Inv-loop μ-loop
 shared-slice-read-is-tree c = search needs
 
-follows-requires : tie.Need-follows-requires Inv-loop μ-loop
-follows-requires c κs = search needs
+may-follow-requires : tie.Need-may-follow-requires Inv-loop μ-loop
+may-follow-requires c κs = search needs
 
 loop-again : tie.Need-loop-again Inv-loop μ-loop
 loop-again c =
     let k = c .before .before .before .before in
     let r = k .before .before .before in
     check-more (r .before .before .loop .inv) (read-begins _ _ _ (r .end-of .ensures) (k .before .next .given .1) (r .before .loop-test .taken))
-    (read-name _ _ _ (r .end-of .ensures) (k .before .next .given .1)) (zero-is-tree _) (c .before .follows .ensures)
+    (read-name _ _ _ (r .end-of .ensures) (k .before .next .given .1)) (zero-is-tree _) (c .before .may-follow .ensures)
     (read-reach _ _ _ (r .end-of .ensures) (k .before .next .given .1)) (read-ends _ _ _ (r .end-of .ensures) (k .before .next .given .1) .inside) (c .if1 .taken)
 
 add-entries : tie.Need-add-entries Inv-loop μ-loop
@@ -97,7 +97,7 @@ returns-2 c =
     let k = c .before .before .before .before in
     let r = k .before .before .before in
     check-broken (r .before .before .loop .inv) (read-begins _ _ _ (r .end-of .ensures) (k .before .next .given .1) (r .before .loop-test .taken))
-    (read-name _ _ _ (r .end-of .ensures) (k .before .next .given .1)) (zero-is-tree _) (c .before .follows .ensures) (c .if1 .left)
+    (read-name _ _ _ (r .end-of .ensures) (k .before .next .given .1)) (zero-is-tree _) (c .before .may-follow .ensures) (c .if1 .left)
 
 returns-3 : tie.Need-returns-3 Inv-loop μ-loop
 returns-3 c = check-end (c .before .loop .inv) (held-end _ _ _ (c .loop-test .left))
@@ -120,7 +120,7 @@ judge-spec =
     part-name-start
     part-name-end
     shared-slice-read-is-tree
-    follows-requires
+    may-follow-requires
     add-entries
     add-name-bytes
     loop-less

@@ -1,8 +1,8 @@
--- `names::judge::follows` meets its contract. Assumes nothing.
+-- `names::judge::may_follow` meets its contract. Assumes nothing.
 use borrow.Author.Needs.{needs}
 use Rattle.names.proofs.FitLaws.{fit-apart, fit-twin, fit-alone, fit-wrong}
-use Rattle.names.proofs.judge.follows.Statement.{statement}
-use Rattle.names.proofs.judge.follows.Tie as tie
+use Rattle.names.proofs.judge.may_follow.Statement.{statement}
+use Rattle.names.proofs.judge.may_follow.Tie as tie
 
 step-requires : tie.Need-step-requires
 step-requires c κs = search needs
@@ -35,8 +35,8 @@ returns-3 c =
 returns-4 : tie.Need-returns-4
 returns-4 c = fit-wrong (c .before .before .step .ensures) (c .enum-told3 .given .1)
 
-pub follows-spec : {M : Type 1} → statement M
-follows-spec =
+pub may-follow-spec : {M : Type 1} → statement M
+may-follow-spec =
     tie.close
     (tie.spec
     step-requires
