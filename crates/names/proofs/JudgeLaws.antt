@@ -12,12 +12,13 @@ use lib.ListN.{length, take, drop, getD, length-append, length-drop, take-append
 use lib.Seq.{drop-drop, drop-cons, getD-drop, take-at, drop-at, length-take-le}
 use borrow.Author.Tests.{le-leb, lt-leb, leb-true, lt-ltb, le-ltb, ltb-true, ne-eqb}
 use Rattle.model.specs.Bytes.{Bytes, cmp, same}
-use Rattle.model.specs.Tree.{Mode, TREE, BLOB, EXEC, LINK, COMMIT, isTree, Entry, Tree, asKind, key, wellFormed}
+use Rattle.model.specs.Tree.{Mode, TREE, BLOB, EXEC, LINK, COMMIT, isTree, Entry, Tree, asKind, key, wellFormed, nameBytes}
 use Rattle.model.specs.Raw.{more, ifGood}
 use Rattle.model.proofs.Basics.{none-some, some-inj}
 use Rattle.model.proofs.ByteLaws.{same-eq, same-refl}
 use Rattle.model.proofs.RawLaws.{more-inv, well-entries}
-use Rattle.names.specs.Compact.{kindOf, modeAt, packed, packedAll, unpack, Wide}
+use Rattle.names.specs.Compact.{kindOf, modeAt, packed, packedAll, unpack, Wide, Run}
+use Rattle.names.specs.Check.{TreeSize, sizeOf}
 use Rattle.names.specs.Judge.{endAt, endAs, entryHeld, heldNext, heldFrom, heldAt, compactTree}
 use Rattle.names.proofs.CompactLaws.{mode-kind, wide-good, unpacked}
 use Rattle.names.specs.declared.judge.End.{End}
@@ -260,3 +261,43 @@ compact-is w b = go (heldAt b w 0) refl
         let u : unpack w b ≡ t = ap (unpack w) (p .0) ∙ unpacked w t (p .1) in
         let q : same b (packedAll (unpack w b)) ≡ true = ap (λ (s : Tree). same b (packedAll s)) u ∙ ap (same b) (sym (p .0)) ∙ same-refl b in
         ap (λ (x : Bool). cond x (ifGood w (some (unpack w b))) none) q ∙ ap (λ (s : Tree). ifGood w (some s)) u
+
+-- For a caller: what it means that the bytes are the compact form of a tree.
+pub record CompactAs (w : ℕ) (b : Bytes) (t : Tree) : Type 0 where
+  pub bytes : b ≡ packedAll t
+  pub holds : unpack w b ≡ t
+  pub well : wellFormed w t ≡ true
+  pub run : Run w b
+
+pub compact-only : (w : ℕ) (b : Bytes) (t : Tree) → compactTree w b ≡ some t → CompactAs w b t
+unfolding compactTree
+compact-only w b t q = go (same b (packedAll (unpack w b))) refl (wellFormed w (unpack w b)) refl q
+  where
+    go : (x : Bool) → same b (packedAll (unpack w b)) ≡ x → (y : Bool) → wellFormed w (unpack w b) ≡ y → cond x (cond y (some (unpack w b)) none) none ≡ some t → CompactAs w b t
+    go true h true g p =
+        let z : unpack w b ≡ t = some-inj (unpack w b) t p in
+        let e : b ≡ packedAll (unpack w b) = same-eq b (packedAll (unpack w b)) h in
+        record {
+          bytes = e ∙ ap packedAll z;
+          holds = z;
+          well = ap (wellFormed w) (sym z) ∙ g;
+          run = record { bytes = e; good = well-entries w (unpack w b) g };
+        }
+    go true h false g p = none-some t p
+    go false h y g p = none-some t p
+
+pub compact-back : (w : ℕ) (t : Tree) → wellFormed w t ≡ true → compactTree w (packedAll t) ≡ some t
+compact-back w t g =
+    compact-is w (packedAll t) ∙ ap (ifGood w) (held-back w t (wide-good w t (well-entries w t g))) ∙ ap (λ (x : Bool). cond x (some t) none) g
+
+-- what is counted is counted of that tree
+pub compact-sized : (w : ℕ) (b : Bytes) (s : TreeSize) → sizeOf (compactTree w b) ≡ some s →
+    (compactTree w b ≡ some (unpack w b)) × (length (unpack w b) ≡ s .entries) × (nameBytes (unpack w b) ≡ s .bytes)
+compact-sized w b s q = go (compactTree w b) refl q
+  where
+    go : (o : Option Tree) → compactTree w b ≡ o → sizeOf o ≡ some s → (o ≡ some (unpack w b)) × (length (unpack w b) ≡ s .entries) × (nameBytes (unpack w b) ≡ s .bytes)
+    go none e p = none-some s p
+    go (some t) e p =
+        let z : unpack w b ≡ t = compact-only w b t e .holds in
+        let y = some-inj _ s p in
+        (ap some (sym z), ap length z ∙ ap (λ (x : TreeSize). x .entries) y, ap nameBytes z ∙ ap (λ (x : TreeSize). x .bytes) y)
