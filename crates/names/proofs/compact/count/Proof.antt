@@ -1,0 +1,96 @@
+-- `names::compact::count` meets its contract. Assumes nothing.
+use Rattle.names.proofs.CompactLaws.{Mark, mark, Walked, offset-zero, offset-before, offset-end}
+use lib.ListN.{length}
+use mathlib.Core.Path.{sym}
+use Prim.Native.Nat.{_-_}
+use native.Mathlib.Omega.{arith}
+use Rattle.names.proofs.compact.count.Statement.{statement}
+use Rattle.names.proofs.compact.count.Tie as tie
+
+abbrev Inv-loop : tie.InvT-loop
+Inv-loop tree width a₀ n₀ a n = Walked width tree n a
+
+abbrev μ-loop : tie.MeasureT-loop
+μ-loop tree width a₀ n₀ a n = length tree - a
+
+-- the entry at hand
+at-turn : (c : tie.In-loop Inv-loop μ-loop) → Mark (c .before .before .args .width) (c .before .before .args .tree .now) (c .before .loop .n) (c .before .loop .a)
+at-turn c =
+    let l = c .before .loop in
+    let s = c .before .before in
+    mark (s .args .width) (s .args .tree .now) (l .n) (l .a) (s .pre .0) (l .inv .is)
+    (offset-before (s .args .width) (s .args .tree .now) (l .n) (s .pre .0) (l .inv .within) (omega (arith, l .inv .is, c .loop-test .taken)))
+
+loop-holds : tie.Need-loop-holds Inv-loop μ-loop
+loop-holds c = record { is = sym (offset-zero (c .args .width) (c .args .tree .now)); within = omega arith; small = omega arith }
+
+add-k : tie.Need-add-k Inv-loop μ-loop
+add-k c =
+    let m = at-turn c in
+    omega (arith, m .room)
+
+shared-slice-read-k : tie.Need-shared-slice-read-k Inv-loop μ-loop
+shared-slice-read-k c =
+    let m = at-turn (c .before) in
+    omega (arith, m .room)
+
+cast-k : tie.Need-cast-k Inv-loop μ-loop
+cast-k c =
+    let m = at-turn (c .before) in
+    omega (arith, m .room)
+
+add-a : tie.Need-add-a Inv-loop μ-loop
+add-a c =
+    let m = at-turn (c .before) in
+    omega (arith, m .room)
+
+add-a-2 : tie.Need-add-a-2 Inv-loop μ-loop
+add-a-2 c =
+    let m = at-turn (c .before) in
+    omega (arith, m .room)
+
+add-a-3 : tie.Need-add-a-3 Inv-loop μ-loop
+add-a-3 c =
+    let m = at-turn (c .before) in
+    omega (arith, m .room)
+
+add-n : tie.Need-add-n Inv-loop μ-loop
+add-n c =
+    let m = at-turn (c .before) in
+    omega (arith, m .room, c .before .before .loop .inv .small)
+
+loop-less : tie.Need-loop-less Inv-loop μ-loop
+loop-less c =
+    let m = at-turn (c .before) in
+    omega (arith, m .room)
+
+loop-again : tie.Need-loop-again Inv-loop μ-loop
+loop-again c =
+    let m = at-turn (c .before) in
+    let l = c .before .before .loop in
+    let s = c .before .before .before in
+    record { is = m .next; within = omega (arith, offset-before (s .args .width) (s .args .tree .now) (l .n) (s .pre .0) (l .inv .within) (omega (arith, l .inv .is, c .before .loop-test .taken))); small = omega (arith, l .inv .small) }
+
+returns : tie.Need-returns Inv-loop μ-loop
+returns c =
+    let l = c .before .loop in
+    let s = c .before .before in
+    offset-end (s .args .width) (s .args .tree .now) (l .n) (s .pre .0) (l .inv .within) (omega (arith, l .inv .is, c .loop-test .left))
+
+pub count-spec : {M : Type 1} → statement M
+count-spec =
+    tie.close
+    (tie.spec
+    Inv-loop
+    μ-loop
+    loop-holds
+    add-k
+    shared-slice-read-k
+    cast-k
+    add-a
+    add-a-2
+    add-a-3
+    add-n
+    loop-less
+    loop-again
+    returns)
