@@ -1,11 +1,12 @@
 -- Laws of the digits of a word. Assumes nothing.
-use mathlib.Core.Path.{_≡_, refl, ap, ap₂, _∙_}
+use mathlib.Core.Path.{_≡_, refl, sym, ap, ap₂, _∙_}
 use mathlib.Core.List.{List, _∷_}
 use Prim.Native.Nat.{ℕ, zero, suc, _+_, _-_, _*_, _/_, _%_, _^_, _≤_, _<_}
 use native.Mathlib.Nat.{pow-suc, le-of-suc-le-suc, not-suc-le-zero, one-mul}
 use native.Mathlib.Omega.{arith}
 use lib.ListN.{length, getD, set}
 use lib.Pow.{shr-shr, shl-exact}
+use lib.Seq.{set-getD}
 use lib.Dec.{lit<}
 use lib.Arith.{lt-one}
 use lib.Count.{ones, ones-step, trailingZeros, under}
@@ -102,3 +103,11 @@ pub first-set : (w n : ℕ) → firstSet (digits w n) < w → getD (digits w n) 
 unfolding digits firstSet
 first-set zero n h = absurd (not-suc-le-zero h)
 first-set (suc w) n h = first-of (n % 2) (firstSet (digits w (n / 2))) (digits w (n / 2)) w (omega arith) h (first-set w (n / 2))
+
+-- a digit that is not 1 is 0
+pub digit-zero : (w n k : ℕ) → k < w → (getD (digits w n) k 0 ≡ 1 → ⊥) → getD (digits w n) k 0 ≡ 0
+digit-zero w n k h ne = let e = digit-at w n k h in omega (arith, e, ne)
+
+-- a digit that is set may be set again
+pub digit-same : (ds : List ℕ) (k : ℕ) → getD ds k 0 ≡ 1 → ds ≡ set ds k 1
+digit-same ds k e = sym (ap (set ds k) (sym e) ∙ set-getD ds k 0)

@@ -16,8 +16,8 @@ add-result c = omega (arith, bit (c .args .slot) (c .pre .0), digit-room 64 (c .
 
 returns : tie.Need-returns
 returns c =
-    ap (λ (x : ℕ). digits 64 (c .args .free + x)) (bit (c .args .slot) (c .pre .0))
-    ∙ digit-add 64 (c .args .free) (c .args .slot) (c .pre .0) (c .pre .1)
+    let e = bit (c .args .slot) (c .pre .0) in
+    (ap (λ (x : ℕ). c .args .free + x) e, ap (λ (x : ℕ). digits 64 (c .args .free + x)) e ∙ digit-add 64 (c .args .free) (c .args .slot) (c .pre .0) (c .pre .1))
 
 pub give-spec : {M : Type 1} → statement M
 give-spec = tie.close (tie.spec shl-result add-result returns)
