@@ -1,19 +1,19 @@
 -- Laws of trees in compact form: an entry and its place are read off what the run is the packed form of. Assumes nothing.
 use mathlib.Core.Path.{_≡_, refl, sym, ap, _∙_}
-use mathlib.Core.Bool.{Bool, true, false, _&&_}
+use mathlib.Core.Bool.{Bool, true, false, not, _&&_}
 use mathlib.Core.List.{[], _∷_, _++_, append-assoc, append-nil}
 use Prim.Native.Nat.{ℕ, zero, suc, _+_, _*_, _≤_, _<_}
 use native.Mathlib.Omega.{arith}
 use native.Mathlib.Nat.{suc-mul}
-use lib.Dec.{eqb, ltb}
-use borrow.Author.Tests.{eqb-true, ltb-true, ltb-false}
+use lib.Dec.{eqb, leb, ltb}
+use borrow.Author.Tests.{eqb-true, ltb-true, ltb-false, leb-true}
 use native.Mathlib.Numerals.{add-one}
 use lib.ListN.{length, take, drop, getD, length-append}
 use lib.Seq.{take-at, drop-at, getD-at, split-at, take-suc, take-length}
 use Rattle.model.proofs.Basics.{and-left, and-right}
-use Rattle.model.specs.Bytes.{Bytes}
+use Rattle.model.specs.Bytes.{Bytes, has, isNil}
 use Rattle.model.specs.Tree.{Mode, TREE, BLOB, EXEC, LINK, COMMIT, isTree, Entry, Tree, goodName, goodEntries, nameBytes}
-use Rattle.names.specs.Compact.{kindOf, modeAt, packed, packedAll, unpackIn, unpack, Wide, Packs, Run, offset, blank, entryAt}
+use Rattle.names.specs.Compact.{kindOf, modeAt, packed, packedAll, unpackIn, unpack, Wide, Run, offset, blank, entryAt}
 
 pub mode-kind : (m : Mode) → modeAt (kindOf m) ≡ m
 unfolding modeAt kindOf
@@ -31,16 +31,19 @@ mode-high (suc (suc zero)) h = absurd (omega arith)
 mode-high (suc (suc (suc zero))) h = absurd (omega arith)
 mode-high (suc (suc (suc (suc k)))) h = refl
 
+pub name-short : (n : Bytes) → goodName n ≡ true → length n ≤ 255
+unfolding goodName
+name-short n e =
+    let a : (not (isNil n) && leb (length n) 255 && not (has 47 n)) ≡ true = and-left (not (isNil n) && leb (length n) 255 && not (has 47 n)) (not (has 0 n)) e in
+    let b : (not (isNil n) && leb (length n) 255) ≡ true = and-left (not (isNil n) && leb (length n) 255) (not (has 47 n)) a in
+    leb-true (length n) 255 (and-right (not (isNil n)) (leb (length n) 255) b)
+
 pub wide-good : (w : ℕ) (t : Tree) → goodEntries w t ≡ true → Wide w t
 wide-good w [] g = tt
 wide-good w (e ∷ es) g = (
   eqb-true (length (e .id)) w (and-right (goodName (e .name)) (eqb (length (e .id)) w) (and-left (goodName (e .name) && eqb (length (e .id)) w) (goodEntries w es) g)),
   wide-good w es (and-right (goodName (e .name) && eqb (length (e .id)) w) (goodEntries w es) g),
 )
-
-pub wide-append : (w : ℕ) (s t : Tree) → Wide w s → Wide w t → Wide w (s ++ t)
-wide-append w [] t none v = v
-wide-append w (e ∷ es) t (h, u) v = (h, wide-append w es t u v)
 
 pub packed-length : (w : ℕ) (e : Entry) → length (e .id) ≡ w → length (packed e) ≡ 2 + w + length (e .name)
 packed-length w e h = omega (arith, length-append (e .id) (e .name))
@@ -78,8 +81,11 @@ pub unpacked : (w : ℕ) (t : Tree) → Wide w t → unpack w (packedAll t) ≡ 
 unfolding unpack
 unpacked w t u = unpacked-in (length (packedAll t)) w t u (omega arith)
 
-pub packs-is : (w : ℕ) (b : Bytes) (t : Tree) → Packs w b t → unpack w b ≡ t
-packs-is w b t p = ap (unpack w) (p .bytes) ∙ unpacked w t (p .ids)
+-- and is a run, where the tree's names and ids are good
+pub packed-run : (w : ℕ) (t : Tree) → goodEntries w t ≡ true → Run w (packedAll t)
+packed-run w t g =
+    let e = unpacked w t (wide-good w t g) in
+    record { bytes = ap packedAll (sym e); good = ap (goodEntries w) e ∙ g }
 
 -- ---- an entry where it lies
 
@@ -97,7 +103,7 @@ wide-at w [] i u h = absurd (omega arith)
 wide-at w (e ∷ es) zero (q, u) h = q
 wide-at w (e ∷ es) (suc i) (q, u) h = wide-at w es i u (omega arith)
 
-packed-one : (e : Entry) → packedAll (e ∷ []) ≡ packed e
+pub packed-one : (e : Entry) → packedAll (e ∷ []) ≡ packed e
 unfolding packedAll
 packed-one e = append-nil (packed e)
 
@@ -193,6 +199,24 @@ pub record Walked (w : ℕ) (b : Bytes) (n a : ℕ) : Type 0 where
   pub is : a ≡ offset w b n
   pub within : n ≤ length (unpack w b)
   pub small : n ≤ a
+
+pub walk-begin : (w : ℕ) (b : Bytes) → Walked w b 0 0
+walk-begin w b = record { is = sym (offset-zero w b); within = omega arith; small = omega arith }
+
+module _ {w : ℕ} {b : Bytes} {n a : ℕ} (k : Walked w b n a) (r : Run w b) where
+  pub walk-end : length b ≤ a → n ≡ length (unpack w b)
+  walk-end h = offset-end w b n r (k .within) (omega (arith, k .is))
+
+  module _ (h : a < length b) where
+    pub walk-in : n < length (unpack w b)
+    walk-in = offset-before w b n r (k .within) (omega (arith, k .is))
+
+    -- the entry at hand
+    pub walk-at : Mark w b n a
+    walk-at = mark w b n a r (k .is) walk-in
+
+    pub walk-more : {c : ℕ} → c ≡ offset w b (n + 1) → Walked w b (n + 1) c
+    walk-more e = record { is = e; within = omega (arith, walk-in); small = omega (arith, k .small, walk-at .next) }
 
 pub zero-tree : (m : Mode) → eqb (kindOf m) 0 ≡ isTree m
 unfolding kindOf isTree

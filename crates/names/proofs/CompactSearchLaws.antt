@@ -4,17 +4,15 @@ use mathlib.Core.Bool.{true, false}
 use mathlib.Core.List.{List, [], _∷_, _++_}
 use Prim.Native.Nat.{ℕ, zero, suc, _+_, _-_, _/_, _≤_, _<_, Ordering, Ordering·lt, Ordering·eq, Ordering·gt}
 use native.Mathlib.Omega.{arith}
-use lib.ListN.{length, take, drop, length-append, length-take, length-drop}
+use lib.ListN.{length, take, drop, length-append, length-drop}
 use lib.Seq.{length-take-le, drop-cons, take-take, drop-drop, drop-at, take-add, getD-take, getD-drop, take-length}
 use Rattle.model.specs.Bytes.{Bytes, cmp, by}
 use Rattle.model.specs.Tree.{Entry, Tree, key}
 use Rattle.model.specs.Search.{Spot, hit, miss, Searched, further, pastBy, counted, atMiddle, halving, searched}
+use Rattle.model.proofs.SearchLaws.{half-length}
 use Rattle.names.specs.Compact.{packedAll, unpack, Run, offset, blank, entryAt, Tells}
 
 module _ {A : Type 0} (key : A → Bytes) where
-  half-length : (y : A) (ys : List A) → length (take (length (y ∷ ys) / 2) (y ∷ ys)) ≡ length (y ∷ ys) / 2
-  half-length y ys = length-take (length (y ∷ ys) / 2) (y ∷ ys) ∙ omega arith
-
   -- the bound on the depth does not matter
   halving-enough : (n m : ℕ) (k : Bytes) (l : List A) → length l ≤ n → length l ≤ m → halving key n k l ≡ halving key m k l
   halving-enough zero zero k l h g = refl
@@ -35,7 +33,7 @@ module _ {A : Type 0} (key : A → Bytes) where
       go (x ∷ after) e ih =
           let la : suc (length after) ≡ length (y ∷ ys) - i = sym (ap length e) ∙ length-drop i (y ∷ ys) in
           ap₂ (λ (p q : Searched). counted (by (cmp k (key x)) p (record { spot = hit i; count = 0 }) (pastBy (suc i) q)))
-          (ih (take i (y ∷ ys)) (omega (arith, half-length y ys)) (omega (arith, half-length y ys)))
+          (ih (take i (y ∷ ys)) (omega (arith, half-length key y ys)) (omega (arith, half-length key y ys)))
           (ih after (omega (arith, la)) (omega (arith, la)))
 
   -- one comparison of a search
@@ -45,7 +43,7 @@ module _ {A : Type 0} (key : A → Bytes) where
   searched-step k (y ∷ ys) n m x after ln h em e =
       let q : m ≡ length (y ∷ ys) / 2 = em ∙ ap (λ (z : ℕ). z / 2) (sym ln) in
       let la : suc (length after) ≡ length (y ∷ ys) - m = sym (ap length e) ∙ length-drop m (y ∷ ys) in
-      let lt : length (take m (y ∷ ys)) ≡ m = ap (λ (z : ℕ). length (take z (y ∷ ys))) q ∙ half-length y ys ∙ sym q in
+      let lt : length (take m (y ∷ ys)) ≡ m = ap (λ (z : ℕ). length (take z (y ∷ ys))) q ∙ half-length key y ys ∙ sym q in
       ap (λ (z : ℕ). atMiddle key (λ h. halving key (length ys) k h) k (take z (y ∷ ys)) z (drop z (y ∷ ys))) (sym q)
       ∙ ap (atMiddle key (λ h. halving key (length ys) k h) k (take m (y ∷ ys)) m) e
       ∙ ap₂ (λ (p r : Searched). counted (by (cmp k (key x)) p (record { spot = hit m; count = 0 }) (pastBy (suc m) r)))

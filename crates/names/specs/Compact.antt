@@ -1,11 +1,14 @@
 -- A tree as bytes: its entries end to end, each a kind, the length of its name, an id of w bytes and the name. Assumes nothing.
 use mathlib.Core.Path.{_≡_}
-use Prim.Native.Nat.{ℕ, zero, suc, _+_, _≤_}
+use Prim.Native.Nat.{ℕ, zero, suc, _+_, _*_, _≤_}
 use mathlib.Core.Bool.{Bool, true, false}
 use mathlib.Core.List.{[], _∷_, _++_}
+use mathlib.Core.Option.{some}
 use lib.ListN.{length, take, drop, getD}
 use Rattle.model.specs.Bytes.{Bytes}
-use Rattle.model.specs.Tree.{Mode, TREE, BLOB, EXEC, LINK, COMMIT, Entry, Tree, goodEntries}
+use Rattle.model.specs.Tree.{Mode, TREE, BLOB, EXEC, LINK, COMMIT, Entry, Tree, goodEntries, nameBytes}
+use Rattle.model.specs.Order.{All}
+use Rattle.model.specs.Raw.{readTree}
 use Rattle.model.specs.Search.{Spot, hit, miss, Searched}
 use Rattle.names.specs.declared.compact.Place.{Place}
 
@@ -44,13 +47,7 @@ unpack w b = unpackIn (length b) w b
 
 -- every id has w bytes
 abbrev pub Wide : ℕ → Tree → Type 0
-Wide w [] = Unit {0}
-Wide w (e ∷ es) = (length (e .id) ≡ w) × Wide w es
-
--- the run is the packed form of the tree
-pub record Packs (w : ℕ) (b : Bytes) (t : Tree) : Type 0 where
-  pub bytes : b ≡ packedAll t
-  pub ids : Wide w t
+Wide w t = All (λ e. length (e .id) ≡ w) t
 
 -- the run is the packed form of the tree it holds, whose names and ids are good
 pub record Run (w : ℕ) (b : Bytes) : Type 0 where
@@ -78,3 +75,13 @@ pub record Tells (w : ℕ) (b : Bytes) (s : Searched) (r : Place) : Type 0 where
   pub within : r .index ≤ length (unpack w b)
   pub start : r .at ≡ offset w b (r .index)
   pub count : r .compared ≡ s .count
+
+-- the bytes are the raw form of a well-formed tree, whose compact form takes n bytes
+pub record Takes (w : ℕ) (raw : Bytes) (n : ℕ) : Type 0 where
+  pub tree : Tree
+  pub reads : readTree w raw ≡ some tree
+  pub room : n ≡ length tree * (2 + w) + nameBytes tree
+
+-- b is the compact form of the tree that the bytes are the raw form of
+pub record PackedAs (w : ℕ) (raw b : Bytes) : Type 0 where
+  pub is : (t : Tree) → readTree w raw ≡ some t → b ≡ packedAll t

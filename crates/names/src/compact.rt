@@ -4,13 +4,15 @@ ghost use Prim.Native.Nat.{ℕ, _+_, _≤_, _<_};
 ghost use lib.ListN.{length, take};
 ghost use mathlib.Core.List.{_∷_, _++_};
 ghost use Rattle.model.specs.Bytes.{cmp};
+ghost use Rattle.model.specs.Raw.{rawEntry, rawTree};
 ghost use Rattle.model.specs.Tree.{asKind, key};
 ghost use Rattle.model.specs.Search.{searched};
 ghost use Rattle.names.specs.Answers.{asMode, asOrdering};
-ghost use Rattle.names.specs.Compact.{kindOf, modeAt, unpack, Run, offset, entryAt, Tells};
+ghost use Rattle.names.specs.Compact.{kindOf, modeAt, unpack, Run, offset, entryAt, Tells, Takes, PackedAs};
 ghost use Rattle.names.specs.Splice.{splice};
 use crate::mode::EntryKind;
 use crate::order::Order;
+use crate::raw::EntryRead;
 
 // The byte of a kind.
 pub fn kind_byte(kind: EntryKind) -> u8
@@ -170,4 +172,96 @@ pub fn id_at<'a>(tree: &'a [u8], width: usize, at: usize, i: usize) -> &'a [u8]
     ensures { λ r. ⌜ now r ≡ entryAt width (now (tree .entry)) i .id ⌝ }
 {
     crate::part::between(tree, at + 2, width)
+}
+
+// The mode of the entry i, which starts at `at`.
+pub fn entry_kind(tree: &[u8], width: usize, at: usize, i: usize) -> EntryKind
+    requires { ⌜ Run width (now tree) × (at ≡ offset width (now tree) i) × (i < length (unpack width (now tree))) ⌝ }
+    ensures { λ r. ⌜ asMode r ≡ entryAt width (now (tree .entry)) i .mode ⌝ }
+{
+    kind_of(kind_at(tree, width, at, i))
+}
+
+// How long the raw form of the entry i is, which starts at `at`.
+fn raw_entry_len(tree: &[u8], width: usize, at: usize, i: usize) -> usize
+    requires { ⌜ Run width (now tree) × (width ≤ 64) × (at ≡ offset width (now tree) i) × (i < length (unpack width (now tree))) ⌝ }
+    ensures { λ r. ⌜ r ≡ length (rawEntry (entryAt width (now (tree .entry)) i)) ⌝ }
+{
+    let n = tree[at + 1] as usize;
+    if tree[at] == 0 {
+        7 + n + width
+    } else {
+        8 + n + width
+    }
+}
+
+// How long the raw form of a tree is.
+pub fn raw_len(tree: &[u8], width: usize) -> usize
+    requires { ⌜ Run width (now tree) × (width ≤ 64) × (length (now tree) ≤ 4294967296) ⌝ }
+    ensures { λ r. ⌜ r ≡ length (rawTree (unpack width (now (tree .entry)))) ⌝ }
+{
+    let mut a = 0;
+    let mut i = 0;
+    let mut n = 0;
+    while a < tree.len() {
+        n += raw_entry_len(tree, width, a, i);
+        a = skip(tree, width, a, i, 1);
+        i += 1;
+    }
+    n
+}
+
+// Writes the raw form of the entry i, which starts at `at`, from `to` on, and gives the place after it.
+fn put_raw(out: &mut [u8], to: usize, tree: &[u8], width: usize, at: usize, i: usize) -> usize
+    requires { ⌜ Run width (now tree) × (at ≡ offset width (now tree) i) × (i < length (unpack width (now tree)))
+        × (to + length (rawEntry (entryAt width (now tree) i)) ≤ length (now out)) ⌝ }
+    ensures { λ r. ⌜ r ≡ to + length (rawEntry (entryAt width (now (tree .entry)) i)) ⌝ }
+    ensures { λ _. ⌜ now (out .exit) ≡ splice (now (out .entry)) to (rawEntry (entryAt width (now (tree .entry)) i)) ⌝ }
+{
+    let kind = entry_kind(tree, width, at, i);
+    let name = name_at(tree, width, at, i);
+    let id = id_at(tree, width, at, i);
+    crate::write::put_entry(out, to, kind, name, id)
+}
+
+// Writes the raw form of a tree to the front of out, and says how long it is.
+pub fn put_tree(out: &mut [u8], tree: &[u8], width: usize) -> usize
+    requires { ⌜ Run width (now tree) × (width ≤ 64) × (length (rawTree (unpack width (now tree))) ≤ length (now out)) ⌝ }
+    ensures { λ r. ⌜ r ≡ length (rawTree (unpack width (now (tree .entry)))) ⌝ }
+    ensures { λ _. ⌜ now (out .exit) ≡ splice (now (out .entry)) 0 (rawTree (unpack width (now (tree .entry)))) ⌝ }
+{
+    let mut a = 0;
+    let mut i = 0;
+    let mut to = 0;
+    while a < tree.len() {
+        to = put_raw(out, to, tree, width, a, i);
+        a = skip(tree, width, a, i, 1);
+        i += 1;
+    }
+    to
+}
+
+// Writes the compact form of a tree that is read from its raw form, and fills dst with it.
+pub fn pack(dst: &mut [u8], raw: &[u8], width: usize)
+    requires { ⌜ Takes width (now raw) (length (now dst)) ⌝ }
+    ensures { λ _. ⌜ PackedAs width (now (raw .entry)) (now (dst .exit)) ⌝ }
+{
+    let mut at = 0;
+    let mut to = 0;
+    while at < raw.len() {
+        let EntryRead::Entry {
+            kind,
+            name_at,
+            name_len,
+            id_at,
+            next,
+        } = crate::raw::read_entry(raw, at, width)
+        else {
+            return;
+        };
+        let id = crate::part::between(raw, id_at, width);
+        let name = crate::part::between(raw, name_at, name_len);
+        to = put_at(dst, to, kind_byte(kind), id, name);
+        at = next;
+    }
 }

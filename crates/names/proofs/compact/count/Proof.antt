@@ -1,7 +1,6 @@
 -- `names::compact::count` meets its contract. Assumes nothing.
-use Rattle.names.proofs.CompactLaws.{Mark, mark, Walked, offset-zero, offset-before, offset-end}
+use Rattle.names.proofs.CompactLaws.{Mark, Walked, walk-begin, walk-at, walk-more, walk-end}
 use lib.ListN.{length}
-use mathlib.Core.Path.{sym}
 use Prim.Native.Nat.{_-_}
 use native.Mathlib.Omega.{arith}
 use Rattle.names.proofs.compact.count.Statement.{statement}
@@ -15,14 +14,10 @@ abbrev μ-loop : tie.MeasureT-loop
 
 -- the entry at hand
 at-turn : (c : tie.In-loop Inv-loop μ-loop) → Mark (c .before .before .args .width) (c .before .before .args .tree .now) (c .before .loop .n) (c .before .loop .a)
-at-turn c =
-    let l = c .before .loop in
-    let s = c .before .before in
-    mark (s .args .width) (s .args .tree .now) (l .n) (l .a) (s .pre .0) (l .inv .is)
-    (offset-before (s .args .width) (s .args .tree .now) (l .n) (s .pre .0) (l .inv .within) (omega (arith, l .inv .is, c .loop-test .taken)))
+at-turn c = walk-at (c .before .loop .inv) (c .before .before .pre .0) (c .loop-test .taken)
 
 loop-holds : tie.Need-loop-holds Inv-loop μ-loop
-loop-holds c = record { is = sym (offset-zero (c .args .width) (c .args .tree .now)); within = omega arith; small = omega arith }
+loop-holds c = walk-begin _ _
 
 add-k : tie.Need-add-k Inv-loop μ-loop
 add-k c =
@@ -66,16 +61,11 @@ loop-less c =
 
 loop-again : tie.Need-loop-again Inv-loop μ-loop
 loop-again c =
-    let m = at-turn (c .before) in
     let l = c .before .before .loop in
-    let s = c .before .before .before in
-    record { is = m .next; within = omega (arith, offset-before (s .args .width) (s .args .tree .now) (l .n) (s .pre .0) (l .inv .within) (omega (arith, l .inv .is, c .before .loop-test .taken))); small = omega (arith, l .inv .small) }
+    walk-more (l .inv) (c .before .before .before .pre .0) (c .before .loop-test .taken) (at-turn (c .before) .next)
 
 returns : tie.Need-returns Inv-loop μ-loop
-returns c =
-    let l = c .before .loop in
-    let s = c .before .before in
-    offset-end (s .args .width) (s .args .tree .now) (l .n) (s .pre .0) (l .inv .within) (omega (arith, l .inv .is, c .loop-test .left))
+returns c = walk-end (c .before .loop .inv) (c .before .before .pre .0) (c .loop-test .left)
 
 pub count-spec : {M : Type 1} → statement M
 count-spec =

@@ -1,0 +1,19 @@
+-- `names::compact::entry_kind` meets its contract. Assumes nothing.
+use mathlib.Core.Path.{ap, _∙_}
+use Rattle.names.specs.Compact.{modeAt}
+use Rattle.names.proofs.CompactLaws.{mode-kind}
+use borrow.Author.Needs.{needs}
+use Rattle.names.proofs.compact.entry_kind.Statement.{statement}
+use Rattle.names.proofs.compact.entry_kind.Tie as tie
+
+kind-at-requires : tie.Need-kind-at-requires
+kind-at-requires c κs = search needs
+
+kind-of-requires : tie.Need-kind-of-requires
+kind-of-requires c κs = search needs
+
+returns : tie.Need-returns
+returns c = c .kind-of .ensures ∙ ap modeAt (c .before .kind-at .ensures) ∙ mode-kind _
+
+pub entry-kind-spec : {M : Type 1} → statement M
+entry-kind-spec = tie.close (tie.spec kind-at-requires kind-of-requires returns)
