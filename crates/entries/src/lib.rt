@@ -94,12 +94,12 @@ pub fn insert_key(
     ensures { λ q. ⌜ Edited width r (now (plens .entry)) (now (paths .entry)) (now (tlens .entry)) (now (trees .entry)) slot (put key (entry kind (now (name .entry)) (now (id .entry))) (treeOf width (now (tlens .entry)) (now (trees .entry)) slot)) q (now (tlens .exit)) (now (trees .exit)) ⌝ }
 {
     let nt = r.trees;
-    let as_tree = names::mode::is_tree(kind);
+    let in_tree_order = names::mode::is_tree(kind);
     let place = names::compact::search(
         runs::runs::run(tlens, trees, nt, slot),
         width,
         name,
-        as_tree,
+        in_tree_order,
     );
     let a = place.at;
     let mut buf = [0u8; 321];
