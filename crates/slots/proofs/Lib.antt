@@ -1,0 +1,9 @@
+-- The laws that the proofs of several functions share.
+pub mod Cached
+pub mod Calls
+pub mod Counts
+pub mod Emptied
+pub mod Gather
+pub mod Relaid
+pub mod Slots
+pub mod Where
