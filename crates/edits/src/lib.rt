@@ -2,3 +2,4 @@
 pub mod code;
 pub mod edit;
 pub mod id;
+pub mod table;
