@@ -38,7 +38,7 @@ pub removes-nothing : (k : RemoveKind) (b : Bool) → TurnIs (E.Remove k) b S.No
 unfolding turn atLast atEarlier removed toRemove seen seenLast seenEarlier
 removes-nothing k true =
     record {
-      walks = λ n t h. ap (λ (o : Option Entry). removed (asRemoval k) n t o) (seen-none (entryOf n t) h);
+      walks = λ n t h. ap (λ (o : Option Entry). removed (asRemoval k) n t o) (seen-none (entryOf n t) (h refl));
       counts = λ n u o h. ap (λ (z : Option Entry). seenLast (remove (asRemoval k)) n u z) (seen-none o h) ∙ of k n u;
     }
   where
@@ -47,7 +47,7 @@ removes-nothing k true =
     of R.Leaf n u = refl
 removes-nothing k false =
     record {
-      walks = λ n t h. ap (λ (o : Option Entry). toRemove t o) (seen-none (entryOf n t) h);
+      walks = λ n t h. ap (λ (o : Option Entry). toRemove t o) (seen-none (entryOf n t) (h refl));
       counts = λ n u o h. ap (λ (z : Option Entry). seenEarlier (remove (asRemoval k)) n u z) (seen-none o h);
     }
 
@@ -56,7 +56,7 @@ pub cuts-any : (m : EntryKind) (i : Id) → TurnIs (E.Remove R.Any) true (S.Entr
 unfolding turn atLast removed seen seenLast
 cuts-any m i =
     record {
-      walks = λ n t h. ap (λ (o : Option Entry). removed ANY n t o) (seen-some m i (entryOf n t) h .1);
+      walks = λ n t h. ap (λ (o : Option Entry). removed ANY n t o) (seen-some m i (entryOf n t) (h refl) .1);
       counts = λ n u o h. ap (λ (z : Option Entry). seenLast (remove ANY) n u z) (seen-some m i o h .1);
     }
 
@@ -65,7 +65,7 @@ unfolding turn atLast removed seen seenLast
 refuses-tree m i f =
     record {
       walks = λ n t h.
-          let x = seen-some m i (entryOf n t) h in
+          let x = seen-some m i (entryOf n t) (h refl) in
           ap (λ (o : Option Entry). removed LEAF n t o) (x .1) ∙ ap (λ (b : Bool). pickTurn b (stop 4) (last (without n t))) (ap isTree (x .2) ∙ f);
       counts = λ n u o h.
           let x = seen-some m i o h in
@@ -77,7 +77,7 @@ unfolding turn atLast removed seen seenLast
 cuts-leaf m i f =
     record {
       walks = λ n t h.
-          let x = seen-some m i (entryOf n t) h in
+          let x = seen-some m i (entryOf n t) (h refl) in
           ap (λ (o : Option Entry). removed LEAF n t o) (x .1) ∙ ap (λ (b : Bool). pickTurn b (stop 4) (last (without n t))) (ap isTree (x .2) ∙ f);
       counts = λ n u o h.
           let x = seen-some m i o h in
@@ -104,7 +104,7 @@ module _ (m : EntryKind) (j : Id) where
   removes-below k f =
       record {
         walks = λ n t h.
-            let x = seen-some m j (entryOf n t) h in
+            let x = seen-some m j (entryOf n t) (h refl) in
             ap (λ (o : Option Entry). toRemove t o) (x .1) ∙ ap₂ (λ (b : Bool) (l : Bytes). pickTurn b (down t (some l)) (stop 0)) (ap isTree (x .2) ∙ f) (x .3);
         counts = λ n u o h.
             let x = seen-some m j o h in
@@ -116,7 +116,7 @@ module _ (m : EntryKind) (j : Id) where
   removes-no-further k f =
       record {
         walks = λ n t h.
-            let x = seen-some m j (entryOf n t) h in
+            let x = seen-some m j (entryOf n t) (h refl) in
             ap (λ (o : Option Entry). toRemove t o) (x .1) ∙ ap₂ (λ (b : Bool) (l : Bytes). pickTurn b (down t (some l)) (stop 0)) (ap isTree (x .2) ∙ f) (x .3);
         counts = λ n u o h.
             let x = seen-some m j o h in
@@ -129,7 +129,7 @@ module _ (m : EntryKind) (j : Id) where
     upserts-below f =
         record {
           walks = λ n t h.
-              let x = seen-some m j (entryOf n t) h in
+              let x = seen-some m j (entryOf n t) (h refl) in
               ap (λ (o : Option Entry). through (null 20) n t o) (x .1)
               ∙ ap₂ (λ (b : Bool) (l : Bytes). pickTurn b (down t (some l)) (down (withEntry (record { mode = TREE; name = n; id = null 20 }) t) none)) (ap isTree (x .2) ∙ f) (x .3);
           counts = λ n u o h.
@@ -142,7 +142,7 @@ module _ (m : EntryKind) (j : Id) where
     upserts-over f =
         record {
           walks = λ n t h.
-              let x = seen-some m j (entryOf n t) h in
+              let x = seen-some m j (entryOf n t) (h refl) in
               ap (λ (o : Option Entry). through (null 20) n t o) (x .1)
               ∙ ap₂ (λ (b : Bool) (l : Bytes). pickTurn b (down t (some l)) (down (withEntry (record { mode = TREE; name = n; id = null 20 }) t) none)) (ap isTree (x .2) ∙ f) (x .3)
               ∙ ap (λ (l : Bytes). down (withEntry (record { mode = TREE; name = n; id = l }) t) none) (sym null-id);
@@ -156,6 +156,6 @@ unfolding turn atEarlier through seen seenEarlier
 upserts-new k i =
     record {
       walks = λ n t h.
-          ap (λ (o : Option Entry). through (null 20) n t o) (seen-none (entryOf n t) h) ∙ ap (λ (l : Bytes). down (withEntry (record { mode = TREE; name = n; id = l }) t) none) (sym null-id);
+          ap (λ (o : Option Entry). through (null 20) n t o) (seen-none (entryOf n t) (h refl)) ∙ ap (λ (l : Bytes). down (withEntry (record { mode = TREE; name = n; id = l }) t) none) (sym null-id);
       counts = λ n u o h. ap (λ (z : Option Entry). seenEarlier (upsert (asMode k) (idBytes i)) n u z) (seen-none o h);
     }

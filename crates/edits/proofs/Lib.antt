@@ -1,3 +1,4 @@
 pub mod EditLaws
+pub mod FrontLaws
 pub mod IdLaws
 pub mod TableLaws

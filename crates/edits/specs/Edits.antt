@@ -93,7 +93,13 @@ sightAs (Put kind id) true s n u = ends (putCounts s n u)
 sightAs (Put kind id) false s n u = goes (putCounts s n u) none
 sightAs (Down id) isLast s n u = goes u (some (idBytes id))
 
+-- whether the turn depends on what is seen: an upsert at the last component does not
+abbrev pub looks : Edit → Bool → Bool
+looks (Remove kind) isLast = true
+looks (Upsert kind id) true = false
+looks (Upsert kind id) false = true
+
 -- r is the turn of the edit e where s was seen: the model's turn in each tree whose entry of the name is so, and the measure's sight
 pub record TurnIs (e : Edit) (isLast : Bool) (s : Seen) (r : Turn) : Type 0 where
-  pub walks : (n : Bytes) (t : Tree) → seenAs s ≡ partsOf (entryOf n t) → walk.turn (null 20) isLast (asEdit e) n t ≡ turnAs r isLast n t
+  pub walks : (n : Bytes) (t : Tree) → (looks e isLast ≡ true → seenAs s ≡ partsOf (entryOf n t)) → walk.turn (null 20) isLast (asEdit e) n t ≡ turnAs r isLast n t
   pub counts : (n : Bytes) (u : Counts) (o : Option Entry) → seenAs s ≡ partsOf o → seen isLast (asEdit e) n u o ≡ sightAs r isLast s n u

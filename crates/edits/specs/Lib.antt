@@ -1,4 +1,5 @@
 pub mod Answers
 pub mod Edits
+pub mod Fronts
 pub mod Ids
 pub mod Objects

@@ -2,4 +2,5 @@
 pub mod code;
 pub mod edit;
 pub mod id;
+pub mod path;
 pub mod table;
