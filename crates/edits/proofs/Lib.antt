@@ -1,0 +1,5 @@
+pub mod EditLaws
+pub mod FrontLaws
+pub mod IdLaws
+pub mod LookLaws
+pub mod TableLaws
