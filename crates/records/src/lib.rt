@@ -1,0 +1,1 @@
+// The small program's input and output, over slices.
