@@ -9,7 +9,7 @@ use Rattle.model.specs.Tree.{BLOB}
 use Rattle.model.specs.Raw.{octal, modeOf}
 use Rattle.model.specs.Walk.{ANY, LEAF, remove, upsert}
 use Rattle.records.specs.Hex.{hexed, bytesOf}
-use Rattle.records.specs.Records.{lines, opKey, pathKey, kindKey, idKey, upsertWord, removeWord, leafWord, said, verbOf, opOf, goodId, step, Read, bad, good, read, reading}
+use Rattle.records.specs.Records.{lines, opKey, pathKey, kindKey, idKey, upsertWord, removeWord, leafWord, said, verbOf, opOf, goodId, step, bad, good, read, reading}
 
 -- a line: key, value, newline
 abbrev line : Bytes → Bytes → Bytes

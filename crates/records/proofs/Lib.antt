@@ -1,1 +1,6 @@
 pub mod Examples
+pub mod FormLaws
+pub mod HexLaws
+pub mod NextLaws
+pub mod PlaceLaws
+pub mod ReadLaws

@@ -1,0 +1,85 @@
+-- `records::hex::is_hex` meets its contract. Assumes nothing.
+use borrow.Author.Needs.{needs}
+use mathlib.Core.Path.{sym, _∙_}
+use Prim.Native.Nat.{_-_}
+use lib.ListN.{length}
+use Rattle.records.proofs.HexLaws.{Hexing, hex-begin, hex-end, hex-odd, hex-first, hex-second, hex-more}
+use Rattle.records.proofs.hex.is_hex.Statement.{statement}
+use Rattle.records.proofs.hex.is_hex.Tie as tie
+
+abbrev Inv-loop : tie.InvT-loop
+Inv-loop s i₀ i = Hexing s i
+
+abbrev μ-loop : tie.MeasureT-loop
+μ-loop s i₀ i = length s - i
+
+loop-holds : tie.Need-loop-holds Inv-loop μ-loop
+loop-holds c = hex-begin _
+
+sub-if1 : tie.Need-sub-if1 Inv-loop μ-loop
+sub-if1 c = search needs
+
+returns : tie.Need-returns Inv-loop μ-loop
+returns c = hex-odd (c .before .before .loop .inv) (c .before .loop-test .taken) (c .if1 .taken)
+
+shared-slice-read-is-digit : tie.Need-shared-slice-read-is-digit Inv-loop μ-loop
+shared-slice-read-is-digit c = search needs
+
+is-digit-requires : tie.Need-is-digit-requires Inv-loop μ-loop
+is-digit-requires c κs = search needs
+
+add-is-digit : tie.Need-add-is-digit Inv-loop μ-loop
+add-is-digit c = search needs
+
+shared-slice-read-is-digit-2 : tie.Need-shared-slice-read-is-digit-2 Inv-loop μ-loop
+shared-slice-read-is-digit-2 c = search needs
+
+is-digit-requires-2 : tie.Need-is-digit-requires-2 Inv-loop μ-loop
+is-digit-requires-2 c κs = search needs
+
+add-i : tie.Need-add-i Inv-loop μ-loop
+add-i c = search needs
+
+loop-less : tie.Need-loop-less Inv-loop μ-loop
+loop-less c = search needs
+
+loop-again : tie.Need-loop-again Inv-loop μ-loop
+loop-again c =
+    let d = c .before .before .before in
+    let f = d .before .before .before in
+    hex-more (f .before .before .loop .inv) (f .if1 .left) (sym (d .before .is-digit .ensures) ∙ d .if2 .taken) (sym (c .before .is-digit2 .ensures) ∙ c .if3 .taken)
+
+returns-2 : tie.Need-returns-2 Inv-loop μ-loop
+returns-2 c =
+    let d = c .before .before .before in
+    let f = d .before .before .before in
+    hex-second (f .before .before .loop .inv) (f .if1 .left) (sym (d .before .is-digit .ensures) ∙ d .if2 .taken) (sym (c .before .is-digit2 .ensures) ∙ c .if3 .left)
+
+returns-3 : tie.Need-returns-3 Inv-loop μ-loop
+returns-3 c =
+    let f = c .before .before .before in
+    hex-first (f .before .before .loop .inv) (f .if1 .left) (sym (c .before .is-digit .ensures) ∙ c .if2 .left)
+
+returns-4 : tie.Need-returns-4 Inv-loop μ-loop
+returns-4 c = hex-end (c .before .loop .inv) (c .loop-test .left)
+
+pub is-hex-spec : {M : Type 1} → statement M
+is-hex-spec =
+    tie.close
+    (tie.spec
+    Inv-loop
+    μ-loop
+    loop-holds
+    sub-if1
+    returns
+    shared-slice-read-is-digit
+    is-digit-requires
+    add-is-digit
+    shared-slice-read-is-digit-2
+    is-digit-requires-2
+    add-i
+    loop-less
+    loop-again
+    returns-2
+    returns-3
+    returns-4)
