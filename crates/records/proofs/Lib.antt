@@ -4,3 +4,4 @@ pub mod HexLaws
 pub mod NextLaws
 pub mod PlaceLaws
 pub mod ReadLaws
+pub mod TextLaws

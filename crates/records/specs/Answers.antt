@@ -4,6 +4,10 @@ use Rattle.model.specs.Walk.{ANY, LEAF}
 use Rattle.names.specs.Answers.{asMode}
 use Rattle.records.specs.Records as def
 use Rattle.records.specs.Places as def-places
+use Rattle.model.specs.Bytes.{Bytes}
+use Rattle.records.specs.Texts.{Written}
+use Rattle.records.specs.declared.text.Put.{Put}
+use Rattle.records.specs.declared.text.Put.the-variants as put
 use Rattle.records.specs.declared.line.Value.{Value}
 use Rattle.records.specs.declared.line.Value.the-variants.{At, Broken}
 use Rattle.records.specs.declared.record.Verb.{Verb}
@@ -61,3 +65,8 @@ nextRead next.End = def-places.nothing
 abbrev pub asForm : Form → def.Form
 asForm (form.Bad n) = def.badLine n
 asForm (form.Good n) = def.records n
+
+-- what a write gave, with the bytes afterwards
+abbrev pub outcome : Put → Bytes → Written
+outcome (put.At n) d = record { next = some n; out = d }
+outcome put.Refused d = record { next = none; out = d }

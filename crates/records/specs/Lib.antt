@@ -2,3 +2,4 @@ pub mod Answers
 pub mod Hex
 pub mod Places
 pub mod Records
+pub mod Texts

@@ -3,3 +3,4 @@ pub mod form;
 pub mod hex;
 pub mod line;
 pub mod record;
+pub mod text;
