@@ -1,17 +1,18 @@
 -- Laws of hex: a text is digits if its first two are, and so is what follows them. Assumes nothing.
-use Prim.Native.Nat.{ℕ, suc, _+_, _-_, _*_, _/_, _≤_, _<_}
+use Prim.Native.Nat.{ℕ, suc, _+_, _-_, _*_, _/_, _%_, _≤_, _<_}
 use mathlib.Core.Path.{_≡_, refl, sym, ap, _∙_}
 use mathlib.Core.List.{[], _∷_}
 use mathlib.Core.Bool.{Bool, true, false, _&&_}
 use native.Mathlib.Numerals.{add-one}
 use native.Mathlib.Omega.{arith}
-use lib.Dec.{leb}
+use lib.Dec.{leb, ltb}
 use lib.ListN.{length, getD, drop, drop-of-length-le}
 use lib.Seq.{drop-cons}
-use borrow.Author.Tests.{le-leb, lt-leb, leb-true}
+use borrow.Author.Tests.{le-leb, lt-leb, leb-true, ltb-true, ltb-false}
 use Rattle.model.specs.Bytes.{Bytes}
+use Rattle.model.specs.Order.{All}
 use Rattle.model.proofs.Basics.{and-left, and-right}
-use Rattle.records.specs.Hex.{isDigit, valueOf, hexed}
+use Rattle.records.specs.Hex.{isDigit, valueOf, hexed, bytesOf, digitFor, hexOf}
 
 pub digit-low : (b : ℕ) → b ≤ 57 → isDigit b ≡ leb 48 b
 digit-low b h = rw (le-leb b 57 h)
@@ -97,3 +98,25 @@ hex-even (h ∷ []) e = absurd (let z : _≡_ {A = ℕ} 0 1 = cc in omega arith)
 hex-even (h ∷ l ∷ s) e =
     let ih = hex-even s (and-right (isDigit l) (hexed s) (and-right (isDigit h) (isDigit l && hexed s) e)) in
     omega arith
+
+-- What is written in hex is read back
+digit-back : (n : ℕ) → n < 16 → (isDigit (digitFor n) ≡ true) × (valueOf (digitFor n) ≡ n)
+digit-back n h = go (ltb n 10) refl
+  where
+    go : (t : Bool) → ltb n 10 ≡ t → (isDigit (digitFor n) ≡ true) × (valueOf (digitFor n) ≡ n)
+    go true e =
+        let l = ltb-true n 10 e in
+        rw e (digit-low (48 + n) (omega arith) ∙ le-leb 48 (48 + n) (omega arith), sym (value-low (48 + n) (omega arith)) ∙ omega arith)
+    go false e =
+        let l = ltb-false n 10 e in
+        rw e (digit-high (87 + n) (omega arith) (omega arith) ∙ le-leb 97 (87 + n) (omega arith), sym (value-high (87 + n) (omega arith)) ∙ omega arith)
+
+pub hex-back : (bs : Bytes) → All (λ b. b < 256) bs → (hexed (hexOf bs) ≡ true) × (bytesOf (hexOf bs) ≡ bs)
+unfolding hexed bytesOf hexOf
+hex-back [] h = (refl, refl)
+hex-back (b ∷ bs) h =
+    let ih = hex-back bs (h .1) in
+    let x = digit-back (b / 16) (omega (arith, h .0)) in
+    let y = digit-back (b % 16) (omega arith) in
+    let q : b / 16 * 16 + b % 16 ≡ b = omega arith in
+    (rw (x .0, y .0, ih .0), rw (x .1, y .1, ih .1, q))

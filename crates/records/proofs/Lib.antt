@@ -1,3 +1,4 @@
+pub mod AnswerLaws
 pub mod Examples
 pub mod FormLaws
 pub mod HexLaws

@@ -3,7 +3,7 @@ use lib.ListN.{length}
 use Prim.Native.Nat.{_-_, _<_}
 use borrow.Author.Needs.{needs}
 use native.Mathlib.Omega.{arith}
-use Rattle.records.proofs.FormLaws.{Forming, record-inside, broken-below, form-long, form-begin, form-more, form-broken, form-none, form-end}
+use Rattle.records.proofs.FormLaws.{Forming, standing, broken-below, form-long, form-begin, form-more, form-broken, form-none, form-end}
 use Rattle.records.proofs.PlaceLaws.{from}
 use Rattle.records.specs.Answers.{nextRead}
 use Rattle.records.proofs.form.first_bad.Statement.{statement}
@@ -32,7 +32,7 @@ ends : (c : tie.After-known-told Inv-loop μ-loop) → c .before .before .before
 ends c =
     let r = c .before .before .before in
     let l = r .before .before in
-    record-inside _ _ _ (from nextRead (r .next-record .ensures) (c .before .next .given .1)) .0
+    standing _ _ _ (from nextRead (r .next-record .ensures) (c .before .next .given .1)) .forward
 
 below : (c : tie.After-known-told2 Inv-loop μ-loop) → c .before .k .given .0 .0 < 4
 below c =
