@@ -8,7 +8,7 @@ use native.Mathlib.Omega.{arith}
 use lib.Dec.{leb, ltb}
 use lib.ListN.{length, getD, drop, drop-of-length-le}
 use lib.Seq.{drop-cons}
-use borrow.Author.Tests.{le-leb, lt-leb, leb-true, ltb-true, ltb-false}
+use borrow.Author.Tests.{le-leb, lt-leb, leb-true, leb-false, ltb-true, ltb-false}
 use Rattle.model.specs.Bytes.{Bytes}
 use Rattle.model.specs.Order.{All}
 use Rattle.model.proofs.Basics.{and-left, and-right}
@@ -60,29 +60,36 @@ pub hex-begin : (s : Bytes) → Hexing s 0
 hex-begin s = record { within = omega arith; rest = refl }
 
 module _ {s : Bytes} {i : ℕ} (at : Hexing s i) where
-  pub hex-end : length s ≤ i → true ≡ hexed s
+  hex-even-end : length s ≤ i → true ≡ hexed s
   unfolding hexed
-  hex-end h = sym (at .rest ∙ rw (drop-of-length-le s h))
+  hex-even-end h = sym (at .rest ∙ rw (drop-of-length-le s h))
 
-  pub hex-odd : i < length s → length s - i < 2 → false ≡ hexed s
+  hex-odd-end : i < length s → length s ≤ i + 1 → false ≡ hexed s
   unfolding hexed
-  hex-odd h g =
+  hex-odd-end h g =
       let e : length s ≤ suc i = omega arith in
       sym (at .rest ∙ rw (drop-cons s i 0 h, drop-of-length-le s e))
 
-  two : 2 ≤ length s - i → hexed s ≡ (isDigit (getD s i 0) && (isDigit (getD s (i + 1) 0) && hexed (drop (i + 2) s)))
-  unfolding hexed
-  two h = at .rest ∙ ap hexed (pair s i (omega arith))
+  pub hex-end : length s ≤ i + 1 → leb (length s) i ≡ hexed s
+  hex-end g = go (leb (length s) i) refl
+    where
+      go : (t : Bool) → leb (length s) i ≡ t → t ≡ hexed s
+      go true e = hex-even-end (leb-true (length s) i e)
+      go false e = hex-odd-end (leb-false (length s) i e) g
 
-  pub hex-first : 2 ≤ length s - i → isDigit (getD s i 0) ≡ false → false ≡ hexed s
+  two : i + 1 < length s → hexed s ≡ (isDigit (getD s i 0) && (isDigit (getD s (i + 1) 0) && hexed (drop (i + 2) s)))
+  unfolding hexed
+  two h = at .rest ∙ ap hexed (pair s i h)
+
+  pub hex-first : i + 1 < length s → isDigit (getD s i 0) ≡ false → false ≡ hexed s
   hex-first h e = sym (two h ∙ ap (λ (t : Bool). t && (isDigit (getD s (i + 1) 0) && hexed (drop (i + 2) s))) e)
 
-  pub hex-second : 2 ≤ length s - i → isDigit (getD s i 0) ≡ true → isDigit (getD s (i + 1) 0) ≡ false → false ≡ hexed s
+  pub hex-second : i + 1 < length s → isDigit (getD s i 0) ≡ true → isDigit (getD s (i + 1) 0) ≡ false → false ≡ hexed s
   hex-second h e f =
       sym (two h ∙ ap (λ (t : Bool). t && (isDigit (getD s (i + 1) 0) && hexed (drop (i + 2) s))) e
       ∙ ap (λ (t : Bool). t && hexed (drop (i + 2) s)) f)
 
-  pub hex-more : 2 ≤ length s - i → isDigit (getD s i 0) ≡ true → isDigit (getD s (i + 1) 0) ≡ true → Hexing s (i + 2)
+  pub hex-more : i + 1 < length s → isDigit (getD s i 0) ≡ true → isDigit (getD s (i + 1) 0) ≡ true → Hexing s (i + 2)
   hex-more h e f = record {
     within = omega arith;
     rest =

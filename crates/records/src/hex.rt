@@ -33,10 +33,7 @@ pub fn is_hex(s: &[u8]) -> bool
     ensures { λ r. ⌜ r ≡ hexed (now (s .entry)) ⌝ }
 {
     let mut i = 0;
-    while i < s.len() {
-        if s.len() - i < 2 {
-            return false;
-        }
+    while i + 1 < s.len() {
         if is_digit(s[i]) {
             if is_digit(s[i + 1]) {
                 i += 2;
@@ -47,7 +44,7 @@ pub fn is_hex(s: &[u8]) -> bool
             return false;
         }
     }
-    true
+    s.len() <= i
 }
 
 // Writes the bytes that digits say.

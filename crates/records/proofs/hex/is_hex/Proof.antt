@@ -3,7 +3,7 @@ use borrow.Author.Needs.{needs}
 use mathlib.Core.Path.{sym, _∙_}
 use Prim.Native.Nat.{_-_}
 use lib.ListN.{length}
-use Rattle.records.proofs.HexLaws.{Hexing, hex-begin, hex-end, hex-odd, hex-first, hex-second, hex-more}
+use Rattle.records.proofs.HexLaws.{Hexing, hex-begin, hex-end, hex-first, hex-second, hex-more}
 use Rattle.records.proofs.hex.is_hex.Statement.{statement}
 use Rattle.records.proofs.hex.is_hex.Tie as tie
 
@@ -16,11 +16,8 @@ abbrev μ-loop : tie.MeasureT-loop
 loop-holds : tie.Need-loop-holds Inv-loop μ-loop
 loop-holds c = hex-begin _
 
-sub-if1 : tie.Need-sub-if1 Inv-loop μ-loop
-sub-if1 c = search needs
-
-returns : tie.Need-returns Inv-loop μ-loop
-returns c = hex-odd (c .before .before .loop .inv) (c .before .loop-test .taken) (c .if1 .taken)
+add-loop : tie.Need-add-loop Inv-loop μ-loop
+add-loop c = search needs
 
 shared-slice-read-is-digit : tie.Need-shared-slice-read-is-digit Inv-loop μ-loop
 shared-slice-read-is-digit c = search needs
@@ -47,21 +44,21 @@ loop-again : tie.Need-loop-again Inv-loop μ-loop
 loop-again c =
     let d = c .before .before .before in
     let f = d .before .before .before in
-    hex-more (f .before .before .loop .inv) (f .if1 .left) (sym (d .before .is-digit .ensures) ∙ d .if2 .taken) (sym (c .before .is-digit2 .ensures) ∙ c .if3 .taken)
+    hex-more (f .before .loop .inv) (f .loop-test .taken) (sym (d .before .is-digit .ensures) ∙ d .if1 .taken) (sym (c .before .is-digit2 .ensures) ∙ c .if2 .taken)
+
+returns : tie.Need-returns Inv-loop μ-loop
+returns c =
+    let d = c .before .before .before in
+    let f = d .before .before .before in
+    hex-second (f .before .loop .inv) (f .loop-test .taken) (sym (d .before .is-digit .ensures) ∙ d .if1 .taken) (sym (c .before .is-digit2 .ensures) ∙ c .if2 .left)
 
 returns-2 : tie.Need-returns-2 Inv-loop μ-loop
 returns-2 c =
-    let d = c .before .before .before in
-    let f = d .before .before .before in
-    hex-second (f .before .before .loop .inv) (f .if1 .left) (sym (d .before .is-digit .ensures) ∙ d .if2 .taken) (sym (c .before .is-digit2 .ensures) ∙ c .if3 .left)
+    let f = c .before .before .before in
+    hex-first (f .before .loop .inv) (f .loop-test .taken) (sym (c .before .is-digit .ensures) ∙ c .if1 .left)
 
 returns-3 : tie.Need-returns-3 Inv-loop μ-loop
-returns-3 c =
-    let f = c .before .before .before in
-    hex-first (f .before .before .loop .inv) (f .if1 .left) (sym (c .before .is-digit .ensures) ∙ c .if2 .left)
-
-returns-4 : tie.Need-returns-4 Inv-loop μ-loop
-returns-4 c = hex-end (c .before .loop .inv) (c .loop-test .left)
+returns-3 c = hex-end (c .before .loop .inv) (c .loop-test .left)
 
 pub is-hex-spec : {M : Type 1} → statement M
 is-hex-spec =
@@ -70,8 +67,7 @@ is-hex-spec =
     Inv-loop
     μ-loop
     loop-holds
-    sub-if1
-    returns
+    add-loop
     shared-slice-read-is-digit
     is-digit-requires
     add-is-digit
@@ -80,6 +76,6 @@ is-hex-spec =
     add-i
     loop-less
     loop-again
+    returns
     returns-2
-    returns-3
-    returns-4)
+    returns-3)
