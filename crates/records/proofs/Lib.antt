@@ -1,5 +1,6 @@
 pub mod AnswerLaws
 pub mod Examples
+pub mod FirstBad
 pub mod FormLaws
 pub mod HexLaws
 pub mod NextLaws

@@ -1,13 +1,11 @@
 -- What the enums of this crate mean in the definitions. Assumes nothing.
 use mathlib.Core.Option.{Option, none, some}
+use Rattle.model.specs.Bytes.{Bytes}
 use Rattle.model.specs.Walk.{ANY, LEAF}
 use Rattle.names.specs.Answers.{asMode}
 use Rattle.records.specs.Records as def
 use Rattle.records.specs.Places as def-places
-use Rattle.model.specs.Bytes.{Bytes}
 use Rattle.records.specs.Texts.{Written}
-use Rattle.records.specs.declared.text.Put.{Put}
-use Rattle.records.specs.declared.text.Put.the-variants as put
 use Rattle.records.specs.declared.line.Value.{Value}
 use Rattle.records.specs.declared.line.Value.the-variants.{At, Broken}
 use Rattle.records.specs.declared.record.Verb.{Verb}
@@ -26,6 +24,8 @@ use Rattle.records.specs.declared.record.Next.{Next}
 use Rattle.records.specs.declared.record.Next.the-variants as next
 use Rattle.records.specs.declared.form.Form.{Form}
 use Rattle.records.specs.declared.form.Form.the-variants as form
+use Rattle.records.specs.declared.text.Put.{Put}
+use Rattle.records.specs.declared.text.Put.the-variants as put
 
 abbrev pub valueRead : Value → Option def-places.Part
 valueRead (At at len) = some (record { at = at; len = len })

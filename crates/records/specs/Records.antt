@@ -133,7 +133,8 @@ stepped n (on st) next = next st
 stepped n (done r) next = more r (next atOp)
 stepped n wrong next = bad n
 
--- the lines from line n on: an answer `bad n` says that what is before line n may still go on to a good input, and what ends with it may not
+-- The lines from line n on. The first line that breaks the form is the first at which the input can no longer be a good one: the lines before it can
+-- still go on to good records, and no input that has it does (proved in proofs/FirstBad)
 unfoldable pub read : ℕ → ℕ → List Line → Stage → Read
 read w n [] st = ended n st
 read w n (cut ∷ ls) st = bad n

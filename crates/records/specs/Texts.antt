@@ -9,7 +9,7 @@ use Rattle.model.specs.Bytes.{Bytes}
 use Rattle.names.specs.Splice.{splice}
 use Rattle.records.specs.Hex.{hexed, bytesOf}
 
--- a number's decimal digits, the last one first found; at most so many, before those that were found
+-- a number's decimal digits, found from the last one on, before those that are after them; at most so many
 unfoldable pub decimalFrom : ℕ → ℕ → Bytes → Bytes
 decimalFrom zero n after = after
 decimalFrom (suc most) n after =
