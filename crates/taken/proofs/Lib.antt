@@ -1,0 +1,4 @@
+-- The laws that the proofs of several functions share.
+pub mod Marking
+pub mod Shown
+pub mod Steps
