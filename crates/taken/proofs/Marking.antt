@@ -1,7 +1,7 @@
 -- Laws of the marked places: their order does not matter, and there are as many more set digits as places. Assumes nothing.
-use mathlib.Core.Path.{_≡_, refl, sym, ap, ap₂, _∙_}
+use mathlib.Core.Path.{_≡_, refl, sym, ap, ap₂, _∙_, subst}
 use mathlib.Core.Bool.{Bool, true, false, not, _&&_}
-use mathlib.Core.List.{List, [], _∷_, _++_}
+use mathlib.Core.List.{List, [], _∷_, _++_, map}
 use Prim.Native.Nat.{ℕ, zero, suc, _+_, _/_, _≤_, _<_, compare, Ordering, Ordering·lt, Ordering·eq, Ordering·gt}
 use native.Mathlib.Omega.{arith}
 use lib.Dec.{eqb}
@@ -140,3 +140,36 @@ unfolding digits total
 total-below zero n k h z = absurd (omega arith)
 total-below (suc w) n zero h z = omega (arith, total-digits w (n / 2), z)
 total-below (suc w) n (suc k) h z = omega (arith, total-below w (n / 2) k (omega arith) z)
+
+-- ---- one that is among them, and one that is not
+
+pub all-has : (P : ℕ → Type 0) (ks : List ℕ) (k : ℕ) → All P ks → has k ks ≡ true → P k
+all-has P [] k a n = no-way (sym n)
+all-has P (j ∷ ks) k a n = go (eqb j k) refl (all-has P ks k (a .1))
+  where
+    go : (t : Bool) → eqb j k ≡ t → (has k ks ≡ true → P k) → P k
+    go true e i = subst P (eqb-true j k e) (a .0)
+    go false e i = i (sym (has-past k j ks (eqb-false j k e)) ∙ n)
+
+pub all-other : (ks : List ℕ) (k : ℕ) → has k ks ≡ false → All (λ j. j ≡ k → ⊥) ks
+all-other [] k n = tt
+all-other (j ∷ ks) k n =
+    let o : j ≡ k → ⊥ = λ e. no-way (sym (has-here k j ks e) ∙ n) in
+    (o, all-other ks k (sym (has-past k j ks o) ∙ n))
+
+pub all-left : (P : ℕ → Type 0) (a b : List ℕ) → All P (a ++ b) → All P a
+all-left P [] b h = tt
+all-left P (x ∷ a) b h = (h .0, all-left P a b (h .1))
+
+pub all-right : (P : ℕ → Type 0) (a b : List ℕ) → All P (a ++ b) → All P b
+all-right P [] b h = h
+all-right P (x ∷ a) b h = all-right P a b (h .1)
+
+-- both of each
+pub all-both : (P Q : ℕ → Type 0) (ks : List ℕ) → All P ks → All Q ks → All (λ j. P j × Q j) ks
+all-both P Q [] a b = tt
+all-both P Q (k ∷ ks) a b = ((a .0, b .0), all-both P Q ks (a .1) (b .1))
+
+pub map-same : {A : Type 0} (f g : ℕ → A) (ks : List ℕ) → All (λ j. f j ≡ g j) ks → map f ks ≡ map g ks
+map-same f g [] a = refl
+map-same f g (k ∷ ks) a = ap₂ (λ x y. x ∷ y) (a .0) (map-same f g ks (a .1))

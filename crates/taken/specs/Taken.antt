@@ -2,7 +2,7 @@
 use mathlib.Core.Path.{_≡_}
 use mathlib.Core.Bool.{true}
 use Prim.Native.Nat.{ℕ, _+_, _-_, _≤_, _<_}
-use mathlib.Core.List.{List, _∷_, _++_}
+use mathlib.Core.List.{List, [], _∷_, _++_}
 use lib.ListN.{length, take, drop, getD}
 use Rattle.model.specs.Map.{del}
 use Rattle.model.specs.Editor.{Held, at}
@@ -10,6 +10,7 @@ use Rattle.model.specs.Editor.{Editor as Model}
 use Rattle.model.specs.Order.{All}
 use Rattle.model.specs.Write.{Going, bottom, writeOf}
 use Rattle.runs.specs.Digits.{digits}
+use Rattle.runs.specs.Runs.{cut}
 use Rattle.slots.specs.View.{cachedOf, stackedOf, asideOf, startOf, Used, marked, allDifferent}
 use Rattle.slots.specs.declared.Editor.{Editor}
 
@@ -66,3 +67,8 @@ pub record SameSlots (r q : Editor) : Type 0 where
   pub trees : q .trees ≡ r .trees
   pub entries : q .entries ≡ r .entries
   pub names : q .names ≡ r .names
+
+-- the slot k holds what it held
+pub record SameTree (plens paths tlens trees plens′ paths′ tlens′ trees′ : List ℕ) (k : ℕ) : Type 0 where
+  pub path : getD (cut plens′ paths′) k [] ≡ getD (cut plens paths) k []
+  pub run : getD (cut tlens′ trees′) k [] ≡ getD (cut tlens trees) k []

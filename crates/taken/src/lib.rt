@@ -4,10 +4,12 @@ ghost use mathlib.Core.Path.{_≡_};
 ghost use Prim.Native.Nat.{ℕ, _+_, _-_, _≤_, _<_};
 ghost use mathlib.Core.List.{List, [], _∷_};
 ghost use lib.ListN.{length, set};
-ghost use Rattle.model.specs.Map.{del};
+ghost use mathlib.Core.Option.{none};
+ghost use Rattle.model.specs.Map.{put, del};
 ghost use Rattle.model.specs.Editor.{at};
-ghost use Rattle.slots.specs.View.{Laid, Used, Ordered, editorOf, heldAt, pathOf, cachedOf, asideOf, stackedOf};
-ghost use Rattle.taken.specs.Taken.{goingOf, stackedOn, keptOn, takenOff, Between, Cached, SameSlots, writingOf};
+ghost use Rattle.runs.specs.Digits.{digits};
+ghost use Rattle.slots.specs.View.{Laid, Used, Ordered, SameWrite, editorOf, heldAt, pathOf, cachedOf};
+ghost use Rattle.taken.specs.Taken.{goingOf, stackedOn, keptOn, takenOff, Between, Cached, SameSlots, SameTree, writingOf};
 use slots::Editor;
 use slots::Taken;
 
@@ -106,4 +108,43 @@ pub fn ask(r: Editor, slot: usize) -> Editor
     ensures same { λ q. ⌜ SameSlots r q × (q .hidden ≡ r .hidden) × (q .«open» ≡ r .«open») × (q .aside ≡ r .aside) × (q .stacked ≡ r .stacked) × (q .asked ≡ slot) ⌝ }
 {
     Editor { asked: slot, ..r }
+}
+
+// Drops the tree in hand.
+pub fn drop_taken(
+    r: Editor,
+    plens: &mut [u64],
+    paths: &mut [u8],
+    tlens: &mut [u64],
+    trees: &mut [u8],
+    width: usize,
+    slot: usize,
+) -> Editor
+    requires { ⌜ Laid width r (now plens) (now paths) (now tlens) (now trees) × (width ≤ 64) × ((order : List ℕ) × Between r order (slot ∷ [])) ⌝ }
+    ensures going { λ q. ⌜ ((order : List ℕ) → Between r order (slot ∷ []) → goingOf width q (now (plens .exit)) (now (paths .exit)) (now (tlens .exit)) (now (trees .exit)) order
+        ≡ goingOf width r (now (plens .entry)) (now (paths .entry)) (now (tlens .entry)) (now (trees .entry)) order) ⌝ }
+    ensures between { λ q. ⌜ ((order : List ℕ) → Between r order (slot ∷ []) → Between q order []) ⌝ }
+    ensures laid { λ q. ⌜ Laid width q (now (plens .exit)) (now (paths .exit)) (now (tlens .exit)) (now (trees .exit)) ⌝ }
+    ensures others { λ q. ⌜ ((k : ℕ) → (k ≡ slot → ⊥) → SameTree (now (plens .entry)) (now (paths .entry)) (now (tlens .entry)) (now (trees .entry)) (now (plens .exit)) (now (paths .exit)) (now (tlens .exit)) (now (trees .exit)) k)
+        × (digits 64 (q .free) ≡ set (digits 64 (r .free)) slot 1) × (digits 64 (q .hidden) ≡ digits 64 (r .hidden)) ⌝ }
+    ensures same { λ q. ⌜ SameWrite r q ⌝ }
+{
+    slots::drop_slot(r, plens, paths, tlens, trees, width, slot)
+}
+
+// The write is over: the tree in hand, the only one that is taken, is cached again.
+pub fn close(r: Editor) -> Editor
+    ensures cache { λ q. ⌜ ((w : ℕ) (plens paths tlens trees order : List ℕ) (slot : ℕ) → Laid w r plens paths tlens trees → Between r order (slot ∷ []) → r .aside ≡ 0 → r .stacked ≡ 0 →
+        editorOf w q plens paths tlens trees order ≡ record { cached = put at (heldAt w plens paths tlens trees slot) (cachedOf w r plens paths tlens trees); writing = none }) ⌝ }
+    ensures ordered { λ q. ⌜ ((order : List ℕ) → length order ≡ 64 → Ordered q order) ⌝ }
+    ensures same { λ q. ⌜ SameSlots r q × (q .«open» ≡ 0) ⌝ }
+{
+    Editor {
+        hidden: r.free,
+        open: 0,
+        aside: 0,
+        stacked: 0,
+        asked: 0,
+        ..r
+    }
 }
