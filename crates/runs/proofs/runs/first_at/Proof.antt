@@ -1,14 +1,14 @@
 -- `runs::runs::first_at` meets its contract. Assumes nothing.
 use borrow.Author.Needs.{needs}
-use mathlib.Core.Path.{_≡_, ap, ap₂, _∙_, sym}
+use mathlib.Core.Path.{_≡_, ap, _∙_, sym}
 use mathlib.Core.Bool.{Bool, false, _||_}
-use mathlib.Core.List.{List, []}
-use Prim.Native.Nat.{ℕ, _<_}
+use mathlib.Core.List.{[]}
+use Prim.Native.Nat.{_<_}
 use native.Mathlib.Omega.{arith}
 use lib.ListN.{getD, length}
 use Rattle.runs.specs.Digits.{digits}
 use Rattle.runs.specs.declared.runs.Found.{Found}
-use Rattle.runs.specs.Runs.{runOf, cut}
+use Rattle.runs.specs.Runs.{cut}
 use Rattle.runs.specs.Find.{foundAt, findFrom}
 use Rattle.runs.proofs.FindLaws.{cut-at}
 use Rattle.runs.proofs.runs.first_at.Statement.{statement}
