@@ -7,19 +7,9 @@ use native.Mathlib.Nat.{le-of-suc-le-suc, not-suc-le-zero}
 use native.Mathlib.Numerals.{add-one}
 use lib.ListN.{length, take, drop, getD, drop-of-length-le}
 use lib.Seq.{drop-cons, drop-drop}
-use Rattle.model.specs.Bytes.{Bytes, same}
-use Rattle.model.proofs.ByteLaws.{same-eq}
 use Rattle.runs.specs.Runs.{total, cut, runOf}
 use Rattle.runs.specs.Find.{hit, pick, findFrom}
 use Rattle.runs.specs.declared.runs.Found.the-variants.{At, Nothing}
-
--- bytes of another length are other bytes
-pub same-longer : (p r : Bytes) (n : ℕ) → length r ≡ n → (n ≡ length p → ⊥) → same p r ≡ false
-same-longer p r n e ne = go (same p r) refl
-  where
-    go : (b : Bool) → same p r ≡ b → b ≡ false
-    go true h = absurd (ne (sym e ∙ ap length (sym (same-eq p r h))))
-    go false h = refl
 
 pub and-false : (b c : Bool) → c ≡ false → false ≡ (b && c)
 and-false true c e = sym e

@@ -81,13 +81,11 @@ pub fn is_at(free: u64, bytes: &[u8], k: usize, a: usize, n: usize, path: &[u8])
     requires { ⌜ (k < 64) × (a + n ≤ length (now bytes)) ⌝ }
     ensures { λ r. ⌜ r ≡ hit (getD (digits 64 free) k 0) (part (now (bytes .entry)) a n) (now (path .entry)) ⌝ }
 {
-    if n != path.len() {
+    let e = a + n;
+    if !names::order::same_bytes(path, &bytes[a..e]) {
         return false;
     }
-    if crate::free::is_free(free, k) {
-        return false;
-    }
-    names::order::same_bytes(path, names::part::between(bytes, a, n))
+    !crate::free::is_free(free, k)
 }
 
 // The first slot that is used and at the path.
