@@ -1,6 +1,5 @@
 -- The laws that the proofs of several functions share.
 pub mod CountLaws
 pub mod Deciding
-pub mod FirstLaws
 pub mod LaidLaws
 pub mod SlotLaws
