@@ -1,0 +1,3 @@
+-- Definitions that the contracts of `store` cite.
+pub mod Decides
+pub mod Written

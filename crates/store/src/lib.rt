@@ -1,0 +1,1 @@
+// Whether a record and lent slices hold an editor.
