@@ -33,7 +33,7 @@ fits-slots : (hs : List Held) → distinct (map at hs) ≡ true → fits (gather
 unfolding fits
 fits-slots hs d f = rw (sym (gather-length hs d), sym (gather-entries hs d), sym (gather-names hs d), sym (gather-paths hs d)) f
 
-module _ (w : ℕ) (r : Editor) (plens paths tlens trees order : List ℕ) (L : Laid w r plens paths tlens trees) where
+module _ (w : ℕ) (r : Editor) (plens paths tlens trees : List ℕ) (L : Laid w r plens paths tlens trees) where
   abbrev ps : List Bytes
   ps = cut plens paths
 
@@ -49,25 +49,25 @@ module _ (w : ℕ) (r : Editor) (plens paths tlens trees order : List ℕ) (L : 
   abbrev asked : Held
   asked = heldAt w plens paths tlens trees (r .asked)
 
-  ps-even : length ps ≡ length (digits 64 (r .free))
+  pub ps-even : length ps ≡ length (digits 64 (r .free))
   ps-even = length-cut plens paths ∙ L .plens-64 ∙ sym (length-digits 64 (r .free))
 
-  bs-even : length bs ≡ length (digits 64 (r .free))
+  pub bs-even : length bs ≡ length (digits 64 (r .free))
   bs-even = length-cut tlens trees ∙ L .tlens-64 ∙ sym (length-digits 64 (r .free))
 
   -- the taken trees and those left are the used slots
-  opened-total : Opened r order → (f : Held → ℕ) → total f used ≡ total (λ k. f (heldAt w plens paths tlens trees k)) (takenOf r order) + total f left
-  opened-total o f =
+  opened-total : (order : List ℕ) → Opened r order → (f : Held → ℕ) → total f used ≡ total (λ k. f (heldAt w plens paths tlens trees k)) (takenOf r order) + total f left
+  opened-total order o f =
       total-marked f w (digits 64 (r .free)) ps bs ps-even bs-even (takenOf r order)
       (all-map (Used r) (Clear (digits 64 (r .free))) (λ k u. record { low = omega (arith, length-digits 64 (r .free), u .low); unset = u .used }) (takenOf r order) (o .used)) (o .apart)
       ∙ ap (λ (ds : List ℕ). total (λ k. f (heldAt w plens paths tlens trees k)) (takenOf r order) + total f (slotsOf w ds ps bs)) (sym (o .hidden))
 
   module _ (good : allGood w used ≡ true) (limit : fits (viewOf w r plens paths tlens trees) ≡ true) where
-    used-sane : Sane w used
+    pub used-sane : Sane w used
     used-sane = sane-of w used (L .apart) good (fits-slots used (L .apart) limit)
 
     -- every tree of the editor, as a sum
-    module _ (ord : Ordered r order) where
+    module _ (order : List ℕ) (ord : Ordered r order) where
       abbrev taken : Option Write
       taken = writeOf (r .«open») asked (asideOf w r plens paths tlens trees order) (stackedOf w r plens paths tlens trees order)
 
@@ -79,7 +79,7 @@ module _ (w : ℕ) (r : Editor) (plens paths tlens trees order : List ℕ) (L : 
           (subst (Sane w) (sym h) used-sane, λ f. ap (λ (l : List Held). total f (gather l)) h ∙ total-gather f used (L .apart))
       every-total (suc n) e =
           let o : Opened r order = ord .opened (λ z. omega (arith, e, z)) in
-          let s : Sane w left = sane-less w left used (λ f. omega (arith, opened-total o f)) used-sane in
+          let s : Sane w left = sane-less w left used (λ f. omega (arith, opened-total order o f)) used-sane in
           let A = asideOf w r plens paths tlens trees order in
           let S = stackedOf w r plens paths tlens trees order in
           let h = heldAt w plens paths tlens trees in
@@ -96,7 +96,7 @@ module _ (w : ℕ) (r : Editor) (plens paths tlens trees order : List ℕ) (L : 
                   total-map f h a,
                   total-map f h b,
                   total-append (λ k. f (h k)) a b,
-                  opened-total o f,
+                  opened-total order o f,
                 ),
           )
 

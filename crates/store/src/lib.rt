@@ -1,1 +1,2 @@
 // Whether a record and lent slices hold an editor.
+pub mod written;
