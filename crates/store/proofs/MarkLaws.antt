@@ -1,7 +1,7 @@
 -- Laws of the slots that are set in a map one after the other: each takes its tree off the list of those left. Assumes nothing.
 use mathlib.Core.Path.{_≡_, refl, sym, ap, _∙_}
 use mathlib.Core.Bool.{Bool, true, false, not, _&&_}
-use mathlib.Core.List.{List, [], _∷_, _++_}
+use mathlib.Core.List.{List, [], _∷_, _++_, map}
 use Prim.Native.Nat.{ℕ, zero, suc, _+_, _*_, _/_, _%_, _^_, _≤_, _<_}
 use native.Mathlib.Nat.{pow-suc}
 use native.Mathlib.Omega.{arith}
@@ -11,7 +11,8 @@ use lib.Dec.{eqb, ltb}
 use lib.ListN.{length, take, drop, getD, set, length-set}
 use lib.Seq.{slice, slice-empty, take-suc, length-take-le, drop-append-le, getD-set-same, getD-set-other}
 use Rattle.model.specs.Bytes.{Bytes, has}
-use Rattle.model.specs.Editor.{Held}
+use Rattle.model.specs.Tree.{distinct}
+use Rattle.model.specs.Editor.{Held, at}
 use Rattle.model.specs.Order.{All}
 use Rattle.model.proofs.SoundTrees.{total}
 use Rattle.model.proofs.Basics.{and-left, and-right, not-true, no-way}
@@ -19,8 +20,8 @@ use Rattle.model.proofs.ByteLaws.{has-here, has-past}
 use Rattle.runs.specs.Digits.{digits}
 use Rattle.runs.proofs.DigitLaws.{length-digits}
 use Rattle.slots.specs.View.{ifUsed, heldIn, slotsOf, marked, allDifferent}
-use Rattle.slots.proofs.Slots.{front, back, slot, id, split-used}
-use Rattle.slots.proofs.Gather.{total-more}
+use Rattle.slots.proofs.Slots.{front, back, slot, id, split-used, ifUsed-append}
+use Rattle.slots.proofs.Gather.{total-more, distinct-remove}
 use Rattle.store.specs.Written.{markable, Marks}
 use Rattle.store.specs.declared.written.Marked.{Marked}
 
@@ -36,10 +37,6 @@ marked-other j [] ds h = refl
 marked-other j (k ∷ ks) ds h = getD-set-other (marked ks ds) k j 1 0 (λ e. no-way (sym (has-here j k ks (sym e)) ∙ h)) ∙ marked-other j ks ds (sym (has-past j k ks (λ e. no-way (sym (has-here j k ks e) ∙ h))) ∙ h)
 
 -- one slot set
-ifUsed-append : (d : ℕ) (h : Held) (a b : List Held) → ifUsed d h (a ++ b) ≡ ifUsed d h a ++ b
-ifUsed-append zero h a b = refl
-ifUsed-append (suc d) h a b = refl
-
 slots-mark : (k w : ℕ) (ds : List ℕ) (ps bs : List Bytes) → k < length ds → length ps ≡ length ds → length bs ≡ length ds →
     slotsOf w (set ds k 1) ps bs ≡ front k w ds ps bs ++ back k w ds ps bs
 unfolding slotsOf
@@ -58,6 +55,21 @@ pub record Clear (ds : List ℕ) (k : ℕ) : Type 0 where
 
 abbrev pub heldOf : ℕ → List Bytes → List Bytes → ℕ → Held
 heldOf w ps bs k = heldIn w (getD ps k []) (getD bs k [])
+
+-- the paths of the slots left are different
+module _ (w : ℕ) (ds : List ℕ) (ps bs : List Bytes) (l : length ps ≡ length ds) (r : length bs ≡ length ds) where
+  pub distinct-marked : (ks : List ℕ) → All (Clear ds) ks → allDifferent ks ≡ true → distinct (map at (slotsOf w ds ps bs)) ≡ true → distinct (map at (slotsOf w (marked ks ds) ps bs)) ≡ true
+  unfolding marked
+  distinct-marked [] c d a = a
+  distinct-marked (k ∷ ks) c d a =
+      let m : List ℕ = marked ks ds in
+      let n : length m ≡ length ds = length-marked ks ds in
+      let h : k < length m = omega (arith, n, c .0 .low) in
+      let u : getD m k 0 ≡ 0 = marked-other k ks ds (not-true (has k ks) (and-left (not (has k ks)) (allDifferent ks) d)) ∙ c .0 .unset in
+      let i : distinct (map at (slotsOf w m ps bs)) ≡ true = distinct-marked ks (c .1) (and-right (not (has k ks)) (allDifferent ks) d) a in
+      ap (λ (x : List Held). distinct (map at x)) (slots-mark k w m ps bs h (l ∙ sym n) (r ∙ sym n))
+      ∙ distinct-remove (front k w m ps bs) (slot k w ps bs id id) (back k w m ps bs)
+      (ap (λ (x : List Held). distinct (map at x)) (sym (split-used k w m ps bs h (l ∙ sym n) (r ∙ sym n) u)) ∙ i)
 
 -- the trees of the slots set and those left are all of them
 module _ (f : Held → ℕ) (w : ℕ) (ds : List ℕ) (ps bs : List Bytes) (l : length ps ≡ length ds) (r : length bs ≡ length ds) where

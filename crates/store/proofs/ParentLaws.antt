@@ -37,7 +37,7 @@ use Rattle.slots.specs.declared.Editor.{Editor}
 use Rattle.slots.proofs.Gather.{gather-mid, distinct-before}
 use Rattle.slots.proofs.Slots.{front, back, split-used}
 use Rattle.slots.proofs.Where.{slot-is}
-use Rattle.store.specs.Written.{Stocked}
+use Rattle.store.specs.Laid.{Lays}
 use Rattle.store.proofs.MarkLaws.{Clear, total-marked}
 use Rattle.store.proofs.Whole.{ps-even, bs-even, used-sane}
 
@@ -117,7 +117,7 @@ both-or x true = refl
 both-or true false = refl
 both-or false false = refl
 
-module _ (w : ℕ) (r : Editor) (plens paths tlens trees : List ℕ) (S : Stocked w r plens paths tlens trees) where
+module _ (w : ℕ) (r : Editor) (plens paths tlens trees : List ℕ) (S : Lays w r plens paths tlens trees) where
   abbrev D : List ℕ
   D = digits 64 (r .free)
 
@@ -143,7 +143,7 @@ module _ (w : ℕ) (r : Editor) (plens paths tlens trees : List ℕ) (S : Stocke
           let x : Bytes = pathOf plens paths k in
           let n : j ≡ k → ⊥ = eqb-false j k t in
           let d : allDifferent (j ∷ k ∷ []) ≡ true = rw (has-past j k [] (λ q. n (sym q))) in
-          let once = used-sane w r plens paths tlens trees (S .laid) (S .good) (S .limits) .once x in
+          let once = used-sane w r plens paths tlens trees (S .laid) (S .good) (S .fits) .once x in
           let sum = total-marked (isAt x) w D ps bs (ps-even w r plens paths tlens trees (S .laid)) (bs-even w r plens paths tlens trees (S .laid)) (j ∷ k ∷ []) (clear j u, (clear k v, tt)) d in
           absurd (omega (arith, once, sum, ap one (same-of (pathOf plens paths j) x e), ap one (same-self x)))
 

@@ -15,7 +15,6 @@ use Rattle.runs.specs.declared.runs.Found.{Found}
 use Rattle.runs.specs.declared.runs.Found.the-variants.{At, Nothing}
 use Rattle.slots.specs.View.{gather, slotsOf, SlotIs, pathOf}
 use Rattle.slots.proofs.Calls.{run-length}
-use Rattle.store.proofs.ParentLaws.{or-none}
 use Rattle.store.specs.Written.{startFrom, startFine}
 
 -- ---- a search says whether something is there
@@ -49,9 +48,9 @@ path-some plens paths used k s h n = go (pathOf plens paths k) (run-length plens
     go [] z = absurd (n (sym z))
     go (x ∷ p) z = refl
 
-and-yes : (b : Bool) → (b && true) ≡ b
-and-yes true = refl
-and-yes false = refl
+pass : (x : Bool) → ((x || false) && true) ≡ x
+pass true = refl
+pass false = refl
 
 -- a write at the root's path may be open
 pub fine-nil : (n : ℕ) (p : Bytes) (c : Cache) → 1 ≤ n → p ≡ [] → true ≡ startFine n p c
@@ -75,4 +74,4 @@ unfolding startPath
 fine-cursor zero p c b h k i e = absurd (omega arith)
 fine-cursor (suc zero) p c b h k i e = absurd (k refl)
 fine-cursor (suc (suc n)) p c b h k i e =
-    e ∙ sym (ap (λ (x : Bool). (isSome (find at [] c) || x) && same p p) i ∙ ap (λ (x : Bool). (isSome (find at [] c) || false) && x) (same-refl p) ∙ and-yes (isSome (find at [] c) || false) ∙ or-none (isSome (find at [] c)))
+    e ∙ sym (ap (λ (x : Bool). (isSome (find at [] c) || x) && same p p) i ∙ ap (λ (x : Bool). (isSome (find at [] c) || false) && x) (same-refl p) ∙ pass (isSome (find at [] c)))

@@ -7,11 +7,12 @@ use lib.Dec.{eqb, ltb}
 use lib.ListN.{length, take, getD}
 use Rattle.model.specs.Bytes.{Bytes, same, isNil}
 use Rattle.model.specs.Map.{find, isSome}
-use Rattle.model.specs.Editor.{Held, at, Cache, startPath, fits}
-use Rattle.model.specs.Valid.{allGood, rootHeld, writeGood}
+use Rattle.model.specs.Editor.{Held, at, Cache, startPath}
+use Rattle.model.specs.Valid.{rootHeld, writeGood}
 use Rattle.runs.specs.Digits.{digits}
-use Rattle.slots.specs.View.{slots, viewOf, Laid, heldAt, startOf, editorOf, marked, Opened, Ordered}
+use Rattle.slots.specs.View.{heldAt, startOf, editorOf, marked, Opened, Ordered}
 use Rattle.slots.specs.declared.Editor.{Editor}
+use Rattle.store.specs.Laid.{Lays}
 use Rattle.store.specs.declared.written.Marked.{Marked}
 
 -- the write's trees are in slots of their own, the root is cached or the write's start, and the trees hang together
@@ -20,16 +21,10 @@ pub record Written (w : ℕ) (r : Editor) (plens paths tlens trees order : List 
   pub root : rootHeld (editorOf w r plens paths tlens trees order .cached) (editorOf w r plens paths tlens trees order .writing) ≡ true
   pub write : writeGood (editorOf w r plens paths tlens trees order .writing) ≡ true
 
--- the trees are laid out, good and within the limits
-pub record Stocked (w : ℕ) (r : Editor) (plens paths tlens trees : List ℕ) : Type 0 where
-  pub laid : Laid w r plens paths tlens trees
-  pub good : allGood w (slots w r plens paths tlens trees) ≡ true
-  pub limits : fits (viewOf w r plens paths tlens trees) ≡ true
-  pub narrow : w ≤ 64
-
--- and the write's trees are in slots of their own
+-- the trees are laid out, good and within the limits, and the write's trees are in slots of their own
 pub record Taking (w : ℕ) (r : Editor) (plens paths tlens trees order : List ℕ) : Type 0 where
-  pub stocked : Stocked w r plens paths tlens trees
+  pub lays : Lays w r plens paths tlens trees
+  pub narrow : w ≤ 64
   pub opened : Opened r order
   pub order-64 : length order ≡ 64
 

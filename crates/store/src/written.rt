@@ -15,7 +15,8 @@ ghost use Rattle.runs.specs.Digits.{digits};
 ghost use Rattle.runs.specs.Runs.{cut, Sound};
 ghost use Rattle.slots.specs.View.{gather, slotsOf, heldAt, pathOf, asideOf, stackedOf, Closed, Opened};
 ghost use Rattle.store.specs.Decides.{Decides};
-ghost use Rattle.store.specs.Written.{Written, Stocked, Taking, Marks, asideBy, startSlot, startFine};
+ghost use Rattle.store.specs.Laid.{Lays};
+ghost use Rattle.store.specs.Written.{Written, Taking, Marks, asideBy, startSlot, startFine};
 use runs::runs::Found;
 use slots::Editor;
 
@@ -300,7 +301,7 @@ pub fn write_ok(
     order: &[u64],
     width: usize,
 ) -> bool
-    requires { ⌜ Stocked width r (now plens) (now paths) (now tlens) (now trees) × (length (now order) ≡ 64) ⌝ }
+    requires { ⌜ Lays width r (now plens) (now paths) (now tlens) (now trees) × (width ≤ 64) × (length (now order) ≡ 64) ⌝ }
     ensures { λ b. ⌜ Decides (Written width r (now (plens .entry)) (now (paths .entry)) (now (tlens .entry)) (now (trees .entry)) (now (order .entry))) b ⌝ }
 {
     if r.open == 0 {

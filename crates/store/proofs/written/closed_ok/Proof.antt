@@ -1,6 +1,7 @@
 -- `store::written::closed_ok` meets its contract: it tests the four numbers of the record in turn. Assumes nothing.
 use native.Mathlib.Omega.{arith}
-use Rattle.store.proofs.DecideLaws.{refuses, decides-eq}
+use Rattle.store.proofs.DecideLaws.{decides-eq}
+use Rattle.store.proofs.Deciding.{refuses}
 use Rattle.store.proofs.written.closed_ok.Statement.{statement}
 use Rattle.store.proofs.written.closed_ok.Tie as tie
 

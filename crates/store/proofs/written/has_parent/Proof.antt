@@ -25,7 +25,7 @@ use Rattle.store.proofs.written.has_parent.Tie as tie
 path-is : (c : tie.After-find) → c .before .before .run .result .now ≡ pathOf (c .before .before .before .before .before .before .before .before .args .plens .now) (c .before .before .before .before .before .before .before .before .args .paths .now) (c .before .before .before .before .before .before .before .before .args .slot)
 path-is c =
     let s = c .before .before .before .before .before .before .before .before in
-    c .before .before .run .ensures ∙ sym (cut-at (s .args .plens .now) (s .args .paths .now) (s .args .slot) (omega (arith, s .pre .0 .stocked .laid .plens-64, s .pre .2)))
+    c .before .before .run .ensures ∙ sym (cut-at (s .args .plens .now) (s .args .paths .now) (s .args .slot) (omega (arith, s .pre .0 .lays .laid .plens-64, s .pre .2)))
 
 sought : (c : tie.After-find) → c .before .parent .result .now ≡ dir (pathOf (c .before .before .before .before .before .before .before .before .args .plens .now) (c .before .before .before .before .before .before .before .before .args .paths .now) (c .before .before .before .before .before .before .before .before .args .slot))
 sought c = c .before .parent .ensures ∙ ap dir (path-is c)
@@ -35,7 +35,7 @@ at-slot : (c : tie.After-find) (k : ℕ) → c .find .result ≡ At k → Used (
 at-slot c k t =
     let s = c .before .before .before .before .before .before .before .before in
     let a = s .args in
-    parent-slot (a .width) (a .r) (a .plens .now) (a .paths .now) (a .tlens .now) (a .trees .now) (s .pre .0 .stocked) (pathOf (a .plens .now) (a .paths .now) (a .slot)) (c .before .parent .result .now) (sought c)
+    parent-slot (a .width) (a .r) (a .plens .now) (a .paths .now) (a .tlens .now) (a .trees .now) (s .pre .0 .lays) (pathOf (a .plens .now) (a .paths .now) (a .slot)) (c .before .parent .result .now) (sought c)
     (c .find .result) (c .find .ensures) k t .0
 
 below : (c : tie.After-find) (k : ℕ) (b : Bool) → c .find .result ≡ At k → b ≡ has k (take (c .before .before .before .before .before .before .before .before .args .n) (c .before .before .before .before .before .before .before .before .args .order .now)) →
@@ -46,7 +46,7 @@ below c k b t e =
     let s = c .before .before .before .before .before .before .before .before in
     let a = s .args in
     let p = pathOf (a .plens .now) (a .paths .now) (a .slot) in
-    below-slot (a .width) (a .r) (a .plens .now) (a .paths .now) (a .tlens .now) (a .trees .now) (s .pre .0 .stocked) p (c .before .parent .result .now) (sought c)
+    below-slot (a .width) (a .r) (a .plens .now) (a .paths .now) (a .tlens .now) (a .trees .now) (s .pre .0 .lays) p (c .before .parent .result .now) (sought c)
     (c .find .result) (c .find .ensures) k t (take (a .n) (a .order .now)) (aside-used (s .pre .0 .opened) (a .n) (s .pre .1))
     ∙ ap (λ (x : Bool). x && isTreeEntry (entryOf (base p) (treeOf (a .width) (a .tlens .now) (a .trees .now) k))) (sym e)
 
@@ -74,7 +74,7 @@ run-requires-2 : tie.Need-run-requires-2
 run-requires-2 c κs =
     let f = c .before .before .before .before .before in
     let s = c .before .before .before .before .before .before .before .before .before .before .before .before .before in
-    (s .pre .0 .stocked .laid .trees-sound, omega (arith, s .pre .0 .stocked .laid .tlens-64, at-slot f _ (c .before .before .before .found .given .1) .low))
+    (s .pre .0 .lays .laid .trees-sound, omega (arith, s .pre .0 .lays .laid .tlens-64, at-slot f _ (c .before .before .before .found .given .1) .low))
 
 filename-requires : tie.Need-filename-requires
 filename-requires c κs = search needs
@@ -84,12 +84,12 @@ has-tree-requires c κs =
     let f = c .before .before .before .before .before .before .before in
     let s = c .before .before .before .before .before .before .before .before .before .before .before .before .before .before .before in
     let a = s .args in
-    let L = s .pre .0 .stocked .laid in
+    let L = s .pre .0 .lays .laid in
     let k = c .before .before .before .before .before .found .given .0 .0 in
     let h = at-slot f k (c .before .before .before .before .before .found .given .1) .low in
     let e = c .before .run2 .ensures in (
       subst (Run (a .width)) (sym e) (searched-run (a .width) (a .r) (a .plens .now) (a .paths .now) (a .tlens .now) (a .trees .now) L k h),
-      s .pre .0 .stocked .narrow,
+      s .pre .0 .narrow,
       ap (λ (x : Bytes). wellFormed (a .width) (unpack (a .width) x)) e ∙ ap (wellFormed (a .width)) (tree-run (a .width) (a .r) (a .plens .now) (a .paths .now) (a .tlens .now) (a .trees .now) L k h) ∙ L .well k h,
       ap (has 47) (c .filename .ensures) ∙ base-plain (f .before .before .run .result .now),
     )
@@ -107,7 +107,7 @@ returns-2 c =
     let o = c .before .before .before in
     let n : c .before .filename .result .now ≡ base (pathOf (a .plens .now) (a .paths .now) (a .slot)) = c .before .filename .ensures ∙ ap base (path-is f) in
     let e : unpack (a .width) (c .before .before .run2 .result .now) ≡ treeOf (a .width) (a .tlens .now) (a .trees .now) k =
-    ap (unpack (a .width)) (c .before .before .run2 .ensures) ∙ tree-run (a .width) (a .r) (a .plens .now) (a .paths .now) (a .tlens .now) (a .trees .now) (s .pre .0 .stocked .laid) k (at-slot f k t .low) in
+    ap (unpack (a .width)) (c .before .before .run2 .ensures) ∙ tree-run (a .width) (a .r) (a .plens .now) (a .paths .now) (a .tlens .now) (a .trees .now) (s .pre .0 .lays .laid) k (at-slot f k t .low) in
     c .has-tree .ensures ∙ ap₂ (λ (x : Bytes) (y : Tree). isTreeEntry (entryOf x y)) n e ∙ sym (below f k true t (sym (not-false _ (o .if1 .left)) ∙ o .before .is-among .ensures))
 
 returns-3 : tie.Need-returns-3
@@ -116,7 +116,7 @@ returns-3 c =
     let s = c .before .before .before .before .before .before .before .before .before .before in
     let a = s .args in
     sym
-    (below-none (a .width) (a .r) (a .plens .now) (a .paths .now) (a .tlens .now) (a .trees .now) (s .pre .0 .stocked) (pathOf (a .plens .now) (a .paths .now) (a .slot)) (f .before .parent .result .now) (sought f)
+    (below-none (a .width) (a .r) (a .plens .now) (a .paths .now) (a .tlens .now) (a .trees .now) (s .pre .0 .lays) (pathOf (a .plens .now) (a .paths .now) (a .slot)) (f .before .parent .result .now) (sought f)
     (f .find .result) (f .find .ensures) (c .enum-told .given .1) (take (a .n) (a .order .now)) (aside-used (s .pre .0 .opened) (a .n) (s .pre .1)))
 
 pub has-parent-spec : {M : Type 1} → statement M

@@ -2,7 +2,8 @@
 use native.Mathlib.Omega.{arith}
 use borrow.Author.Tests.{not-true, not-false}
 use borrow.Author.Needs.{needs}
-use Rattle.store.proofs.DecideLaws.{refuses, decides-eq}
+use Rattle.store.proofs.DecideLaws.{decides-eq}
+use Rattle.store.proofs.Deciding.{refuses}
 use Rattle.store.proofs.TakenLaws.{bad-last, bad-first, bad-all, opened-of, hidden-of}
 use Rattle.store.proofs.written.taken_ok.Statement.{statement}
 use Rattle.store.proofs.written.taken_ok.Tie as tie

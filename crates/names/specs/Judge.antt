@@ -1,0 +1,42 @@
+-- What the check of a tree in compact form says, and the entries that it finds in the bytes. Assumes nothing.
+use Prim.Native.Nat.{ℕ, zero, suc, _+_, _-_}
+use mathlib.Core.List.{[]}
+use mathlib.Core.Bool.{cond, _&&_}
+use mathlib.Core.Option.{Option, none, some}
+use lib.Dec.{leb, ltb}
+use lib.ListN.{length, take, drop, getD}
+use Rattle.model.specs.Bytes.{Bytes, same}
+use Rattle.model.specs.Tree.{Entry, Tree}
+use Rattle.model.specs.Raw.{more, ifGood}
+use Rattle.names.specs.Compact.{modeAt, packedAll, unpack}
+use Rattle.names.specs.declared.judge.End.{End}
+use Rattle.names.specs.declared.judge.End.the-variants.{To, Damaged}
+
+-- Where the entry at `at` ends, if its kind is one of the five and its bytes are there.
+unfoldable pub endAt : Bytes → ℕ → ℕ → Option ℕ
+endAt b w at = cond (ltb (getD b at 0) 5 && leb (at + 2) (length b) && leb (at + 2 + w + getD b (at + 1) 0) (length b)) (some (at + 2 + w + getD b (at + 1) 0)) none
+
+abbrev pub endAs : End → Option ℕ
+endAs (To next) = some next
+endAs Damaged = none
+
+-- the entry at `at`
+abbrev pub entryHeld : Bytes → ℕ → ℕ → Entry
+entryHeld b w at = record { mode = modeAt (getD b at 0); name = take (getD b (at + 1) 0) (drop (at + 2 + w) b); id = take w (drop (at + 2) b) }
+
+abbrev pub heldNext : Bytes → ℕ → ℕ → Option ℕ → (ℕ → Option Tree) → Option Tree
+heldNext b w at none from = none
+heldNext b w at (some next) from = more (entryHeld b w at) (from next)
+
+-- the entries from `at` to the end of the bytes, at most so many
+unfoldable pub heldFrom : ℕ → Bytes → ℕ → ℕ → Option Tree
+heldFrom zero b w at = none
+heldFrom (suc most) b w at = cond (leb (length b) at) (some []) (heldNext b w at (endAt b w at) (heldFrom most b w))
+
+-- the entries from `at` to the end of the bytes; none, where they are no entries to their end
+unfoldable pub heldAt : Bytes → ℕ → ℕ → Option Tree
+heldAt b w at = heldFrom (suc (length b - at)) b w at
+
+-- the tree that the bytes are the compact form of, if they are one and it is well formed
+unfoldable pub compactTree : ℕ → Bytes → Option Tree
+compactTree w b = cond (same b (packedAll (unpack w b))) (ifGood w (some (unpack w b))) none

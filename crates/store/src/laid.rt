@@ -1,0 +1,243 @@
+// Whether a record and the slices of its trees are laid out as they have to be.
+ghost use mathlib.Core.Path.{_≡_};
+ghost use mathlib.Core.Bool.{true};
+ghost use mathlib.Core.List.{[]};
+ghost use Prim.Native.Nat.{ℕ, _≤_, _<_};
+ghost use lib.ListN.{length, getD};
+ghost use Rattle.runs.specs.Digits.{digits};
+ghost use Rattle.runs.specs.Runs.{cut, Sound};
+ghost use Rattle.slots.specs.View.{treeRoom};
+ghost use Rattle.store.specs.Decides.{Decides};
+ghost use Rattle.store.specs.Laid.{Lays, Blank, Lengths, goodPath, New, First, Paths, Trees};
+use names::tree::Checked;
+use slots::Editor;
+
+// Whether the lengths add up to the bytes in use, which the slice has.
+fn is_sound(lens: &[u64], bytes: &[u8], used: usize) -> bool
+    ensures { λ r. ⌜ Decides (Sound (now (lens .entry)) (now (bytes .entry)) used) r ⌝ }
+{
+    if bytes.len() < used {
+        return false;
+    }
+    runs::runs::sum_is(lens, used)
+}
+
+// Whether the slot k may have these two lengths: none where it is free.
+fn blank(map: u64, k: usize, n: u64, m: u64) -> bool
+    requires { ⌜ k < 64 ⌝ }
+    ensures { λ r. ⌜ Decides (Blank (getD (digits 64 map) k 0) n m) r ⌝ }
+{
+    if !runs::free::is_free(map, k) {
+        return true;
+    }
+    if n != 0 {
+        return false;
+    }
+    m == 0
+}
+
+// Whether the free slots have no path and no tree.
+fn blanks(map: u64, plens: &[u64], tlens: &[u64]) -> bool
+    requires { ⌜ (length (now plens) ≡ 64) × (length (now tlens) ≡ 64) ⌝ }
+    ensures { λ r. ⌜ Decides ((k : ℕ) → k < 64 → Blank (getD (digits 64 map) k 0) (getD (now (plens .entry)) k 0) (getD (now (tlens .entry)) k 0)) r ⌝ }
+{
+    let mut k = 0;
+    while k < 64 {
+        if !blank(map, k, plens[k], tlens[k]) {
+            return false;
+        }
+        k += 1;
+    }
+    true
+}
+
+// Whether the lengths add up, and those of the free slots are 0.
+fn lengths(r: Editor, plens: &[u64], paths: &[u8], tlens: &[u64], trees: &[u8]) -> bool
+    requires { ⌜ (length (now plens) ≡ 64) × (length (now tlens) ≡ 64) ⌝ }
+    ensures { λ b. ⌜ Decides (Lengths r (now (plens .entry)) (now (paths .entry)) (now (tlens .entry)) (now (trees .entry))) b ⌝ }
+{
+    let map = r.free;
+    let np = r.paths;
+    let nt = r.trees;
+    if !is_sound(plens, paths, np) {
+        return false;
+    }
+    if !is_sound(tlens, trees, nt) {
+        return false;
+    }
+    blanks(map, plens, tlens)
+}
+
+// Whether a path is the root's or valid.
+fn good_path(path: &[u8]) -> bool
+    ensures { λ r. ⌜ r ≡ goodPath (now (path .entry)) ⌝ }
+{
+    if path.len() == 0 {
+        return true;
+    }
+    names::path::valid_path(path)
+}
+
+// Whether every path is the root's or valid.
+fn good_paths(plens: &[u64], paths: &[u8], used: usize) -> bool
+    requires { ⌜ Sound (now plens) (now paths) used × (length (now plens) ≡ 64) ⌝ }
+    ensures { λ r. ⌜ Decides ((k : ℕ) → k < 64 → goodPath (getD (cut (now (plens .entry)) (now (paths .entry))) k []) ≡ true) r ⌝ }
+{
+    let mut a: usize = 0;
+    let mut k = 0;
+    while k < 64 {
+        let e = a + plens[k] as usize;
+        if !good_path(&paths[a..e]) {
+            return false;
+        }
+        a = e;
+        k += 1;
+    }
+    true
+}
+
+// Whether the slot j is used, and its path, the run, is the path.
+fn is_at(map: u64, j: usize, run: &[u8], path: &[u8]) -> bool
+    requires { ⌜ j < 64 ⌝ }
+    ensures { λ r. ⌜ Decides ((getD (digits 64 map) j 0 ≡ 0) × (now (run .entry) ≡ now (path .entry))) r ⌝ }
+{
+    if !names::order::same_bytes(run, path) {
+        return false;
+    }
+    !runs::free::is_free(map, j)
+}
+
+// Whether no used slot before the slot k is at the path.
+fn is_new(map: u64, plens: &[u64], paths: &[u8], used: usize, k: usize, path: &[u8]) -> bool
+    requires { ⌜ Sound (now plens) (now paths) used × (length (now plens) ≡ 64) × (k < 64) ⌝ }
+    ensures { λ r. ⌜ Decides (New (digits 64 map) (cut (now (plens .entry)) (now (paths .entry))) k (now (path .entry))) r ⌝ }
+{
+    let mut a: usize = 0;
+    let mut j = 0;
+    while j < k {
+        let e = a + plens[j] as usize;
+        if is_at(map, j, &paths[a..e], path) {
+            return false;
+        }
+        a = e;
+        j += 1;
+    }
+    true
+}
+
+// Whether the slot k, if used, is the first at its path.
+fn is_first(map: u64, plens: &[u64], paths: &[u8], used: usize, k: usize, path: &[u8]) -> bool
+    requires { ⌜ Sound (now plens) (now paths) used × (length (now plens) ≡ 64) × (k < 64) × (now path ≡ getD (cut (now plens) (now paths)) k []) ⌝ }
+    ensures { λ r. ⌜ Decides (First (digits 64 map) (cut (now (plens .entry)) (now (paths .entry))) k) r ⌝ }
+{
+    if runs::free::is_free(map, k) {
+        return true;
+    }
+    is_new(map, plens, paths, used, k, path)
+}
+
+// Whether the paths of the used slots are different.
+fn apart(map: u64, plens: &[u64], paths: &[u8], used: usize) -> bool
+    requires { ⌜ Sound (now plens) (now paths) used × (length (now plens) ≡ 64) ⌝ }
+    ensures { λ r. ⌜ Decides ((k : ℕ) → k < 64 → First (digits 64 map) (cut (now (plens .entry)) (now (paths .entry))) k) r ⌝ }
+{
+    let mut a: usize = 0;
+    let mut k = 0;
+    while k < 64 {
+        let e = a + plens[k] as usize;
+        if !is_first(map, plens, paths, used, k, &paths[a..e]) {
+            return false;
+        }
+        a = e;
+        k += 1;
+    }
+    true
+}
+
+// Whether the paths are good, and those of the used slots different.
+fn paths_good(map: u64, plens: &[u64], paths: &[u8], used: usize) -> bool
+    requires { ⌜ Sound (now plens) (now paths) used × (length (now plens) ≡ 64) ⌝ }
+    ensures { λ r. ⌜ Decides (Paths (digits 64 map) (cut (now (plens .entry)) (now (paths .entry)))) r ⌝ }
+{
+    if !good_paths(plens, paths, used) {
+        return false;
+    }
+    apart(map, plens, paths, used)
+}
+
+// Whether each tree is well formed, and there are so many entries and name bytes in all.
+fn trees_good(
+    tlens: &[u64],
+    trees: &[u8],
+    used: usize,
+    width: usize,
+    all_entries: usize,
+    all_names: usize,
+) -> bool
+    requires { ⌜ Sound (now tlens) (now trees) used × (length (now tlens) ≡ 64) ⌝ }
+    ensures { λ r. ⌜ Decides (Trees width (cut (now (tlens .entry)) (now (trees .entry))) «all_entries» «all_names») r ⌝ }
+{
+    let mut es = all_entries;
+    let mut ns = all_names;
+    let mut a: usize = 0;
+    let mut k = 0;
+    while k < 64 {
+        let e = a + tlens[k] as usize;
+        match names::judge::judge(&trees[a..e], width) {
+            Checked::WellFormed {
+                entries,
+                name_bytes,
+            } => {
+                if es < entries {
+                    return false;
+                }
+                if ns < name_bytes {
+                    return false;
+                }
+                es -= entries;
+                ns -= name_bytes;
+            }
+            Checked::Broken => {
+                return false;
+            }
+        }
+        a = e;
+        k += 1;
+    }
+    if es != 0 {
+        return false;
+    }
+    ns == 0
+}
+
+// Whether the trees are laid out as the record says, well formed and within the limits, and their paths different and valid.
+pub fn laid(
+    r: Editor,
+    plens: &[u64],
+    paths: &[u8],
+    tlens: &[u64],
+    trees: &[u8],
+    width: usize,
+) -> bool
+    requires { ⌜ (length (now plens) ≡ 64) × (length (now paths) ≡ 8192) × (length (now tlens) ≡ 64) × (length (now trees) ≡ treeRoom width) ⌝ }
+    ensures { λ b. ⌜ Decides (Lays width r (now (plens .entry)) (now (paths .entry)) (now (tlens .entry)) (now (trees .entry))) b ⌝ }
+{
+    let es = r.entries;
+    let ns = r.names;
+    let np = r.paths;
+    let nt = r.trees;
+    let map = r.free;
+    if 1024 < es {
+        return false;
+    }
+    if 16384 < ns {
+        return false;
+    }
+    if !lengths(r, plens, paths, tlens, trees) {
+        return false;
+    }
+    if !trees_good(tlens, trees, nt, width, es, ns) {
+        return false;
+    }
+    paths_good(map, plens, paths, np)
+}
