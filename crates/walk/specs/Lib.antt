@@ -1,0 +1,2 @@
+-- Definitions that the contracts of `walk` cite.
+pub mod Lookups

@@ -1,0 +1,2 @@
+// The walk over the components of a path that changes nothing: lookups, and the first pass of an edit.
+pub mod look;
