@@ -64,7 +64,7 @@ fn step_at(prev: &[u8], prev_tree: bool, name: &[u8], tree: bool, i: usize) -> S
     Standing::Wrong
 }
 
-// How an entry stands to the one before it.
+// How an entry stands to the one before it, whose name has neither slash nor NUL: so of its own name only what is not shared with that is looked at.
 pub fn step(prev: &[u8], prev_tree: bool, name: &[u8], tree: bool) -> Standing
     requires { ⌜ plain (now prev) ≡ true ⌝ }
     ensures { λ r. ⌜ StandsAs (now (prev .entry)) «prev_tree» (now (name .entry)) tree r ⌝ }

@@ -8,9 +8,11 @@ use native.Mathlib.Omega.{arith}
 use borrow.Author.Tests.{eq-eqb, ne-eqb}
 use lib.Dec.{eqb}
 use lib.ListN.{length, take, drop, getD, set, replicate, length-append, take-append-drop, length-drop}
-use lib.Seq.{take-at, drop-at, set-at, length-take-le, take-suc, drop-drop, take-append-le, drop-append-le, split-at}
+use lib.Seq.{set-getD, take-at, drop-at, set-at, length-take-le, take-suc, drop-drop, take-append-le, drop-append-le, split-at}
+use Rattle.names.specs.Splice.{splice}
+use Rattle.names.proofs.WriteLaws.{length-splice}
 use Rattle.runs.specs.Moves.{inserted, removed, over}
-use Rattle.runs.proofs.MoveLaws.{length-inserted, length-removed}
+use Rattle.runs.proofs.MoveLaws.{length-inserted, length-removed, splice-inner}
 use Rattle.runs.specs.Runs.{total, cut, withRun, Sound}
 
 pub total-append : (a b : List ℕ) → total (a ++ b) ≡ total a + total b
@@ -186,6 +188,15 @@ module _ (lens bytes : List ℕ) (used k : ℕ) (ok : Sound lens bytes used) (h 
       let w : n - m ≡ length (removed here at m) = sym (length-removed here at m (omega (arith, here-length)) ∙ ap (λ (x : ℕ). x - m) here-length) in
       edited (λ (l : List ℕ). removed l at m) (removed here at m) (set lens k (n - m)) bytes′ (drop (length (removed all (total a + at) m)) bytes) refl
       (ap (set lens k) w) (e ∙ ap (λ (l : List ℕ). l ++ drop (length (removed all (total a + at) m)) bytes) (remove-is at m le) ∙ simp append-assoc)
+
+  -- a part of the run overwritten
+  pub splice-view : (at : ℕ) (src bytes′ : List ℕ) → at + length src ≤ n → bytes′ ≡ splice bytes (total a + at) src → cut lens bytes′ ≡ withRun k (λ (l : List ℕ). splice l at src) (cut lens bytes)
+  splice-view at src bytes′ le e =
+      let fit : at + length src ≤ length here = omega (arith, here-length) in
+      let m : n ≡ length (splice here at src) = sym (length-splice here at src fit ∙ here-length) in
+      edited (λ (l : List ℕ). splice l at src) (splice here at src) lens bytes′ (drop used bytes) refl
+      (sym (ap (set lens k) (sym m) ∙ set-getD lens k 0))
+      (e ∙ ap (λ (l : List ℕ). splice l (total a + at) src) bytes-is ∙ splice-inner before here (behind ++ drop used bytes) (total a) at src before-length fit)
 
 -- ---- the other runs stay
 

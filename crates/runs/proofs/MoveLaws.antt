@@ -1,12 +1,11 @@
 -- Laws of `splice`, `part`, `inserted` and `removed`. Assumes nothing.
-use mathlib.Core.Path.{_≡_, refl, sym, ap, _∙_, subst}
-use mathlib.Core.List.{List, [], _∷_, _++_, append-assoc, append-nil}
-use Prim.Native.Nat.{ℕ, zero, suc, _+_, _-_, _≤_, _<_}
-use native.Mathlib.Nat.{add-zero, zero-add}
-use native.Mathlib.Numerals.{add-one}
+use mathlib.Core.Path.{_≡_, refl, sym, ap, _∙_}
+use mathlib.Core.List.{List, [], _∷_, _++_, append-assoc}
+use Prim.Native.Nat.{ℕ, suc, _+_, _-_, _≤_, _<_}
+use native.Mathlib.Nat.{add-zero}
 use native.Mathlib.Omega.{arith}
-use lib.ListN.{length, take, drop, getD, set, length-append, length-take, length-drop, length-set, take-append-drop, List·getD-append}
-use lib.Seq.{take-suc, drop-cons, append-snoc, set-at, length-take-le, getD-take, getD-drop, getD-append-add, take-at, drop-at, take-append-le, take-take, drop-drop, take-length, drop-append-le, drop-append-add, take-add}
+use lib.ListN.{length, take, drop, getD, set, length-append, length-drop, take-append-drop, List·getD-append}
+use lib.Seq.{take-suc, drop-cons, append-snoc, set-at, length-take-le, getD-take, getD-drop, getD-append-add, take-at, drop-at, take-append-le, take-take, drop-drop, take-add}
 use Rattle.names.specs.Splice.{splice}
 use Rattle.runs.specs.Moves.{part, inserted, removed, over}
 
@@ -143,3 +142,20 @@ remove-law d at used n f h room p =
     let x : take at (take used d) ≡ take at d = take-take at used d (omega arith) in
     let y : drop (at + n) (take used d) ≡ part d (at + n) (used - (at + n)) = drop-take (at + n) used d h room in
     p ∙ splice-is d at (part d (at + n) (used - (at + n))) ∙ rw (l, x, y, b) (simp append-assoc)
+
+-- ---- a splice within a part
+
+pub splice-inner : (x h y : List ℕ) (m at : ℕ) (src : List ℕ) → length x ≡ m → at + length src ≤ length h → splice (x ++ (h ++ y)) (m + at) src ≡ x ++ (splice h at src ++ y)
+splice-inner x h y m at src l fit =
+    let p = take at h in
+    let q = take (length src) (drop at h) in
+    let s = drop (at + length src) h in
+    let lp : length (x ++ p) ≡ m + at = omega (arith, length-append x p, length-take-le at h (omega arith)) in
+    let lq : length ((x ++ p) ++ q) ≡ m + at + length src = omega (arith, length-append (x ++ p) q, lp, length-take-le (length src) (drop at h) (omega (arith, length-drop at h))) in
+    let split : h ≡ p ++ (q ++ s) =
+    sym (take-append-drop at h) ∙ ap (λ (z : List ℕ). p ++ z) (sym (take-append-drop (length src) (drop at h)) ∙ ap (λ (z : List ℕ). q ++ z) (drop-drop (length src) at h)) in
+    let all : x ++ (h ++ y) ≡ (x ++ p) ++ (q ++ (s ++ y)) = ap (λ (z : List ℕ). x ++ (z ++ y)) split ∙ simp append-assoc in
+    let a : take (m + at) (x ++ (h ++ y)) ≡ x ++ p = ap (take (m + at)) all ∙ take-at (x ++ p) (q ++ (s ++ y)) (m + at) lp in
+    let b : drop (m + at + length src) (x ++ (h ++ y)) ≡ s ++ y =
+    ap (drop (m + at + length src)) (all ∙ sym (append-assoc (x ++ p) q (s ++ y))) ∙ drop-at ((x ++ p) ++ q) (s ++ y) (m + at + length src) lq in
+    splice-is (x ++ (h ++ y)) (m + at) src ∙ rw (a, b, splice-is h at src) (simp append-assoc)

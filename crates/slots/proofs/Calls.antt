@@ -11,6 +11,7 @@ use Rattle.model.specs.Bytes.{Bytes, same}
 use Rattle.model.specs.Map.{find, put, del}
 use Rattle.model.specs.Tree.{among, nameBytes, wellFormed}
 use Rattle.model.specs.Editor.{Held, at, fits}
+use Rattle.model.proofs.RawLaws.{well-entries}
 use Rattle.runs.specs.Digits.{digits, firstSet}
 use Rattle.runs.proofs.DigitLaws.{length-digits, first-set}
 use Rattle.runs.specs.Moves.{inserted, removed}
@@ -22,7 +23,7 @@ use Rattle.names.proofs.CompactLaws.{packed-room, wide-good}
 use Rattle.slots.specs.View.{heldAs, slots, gather, viewOf, Laid, Used, pathOf, treeOf}
 use Rattle.slots.specs.declared.Editor.{Editor}
 use Rattle.slots.proofs.Gather.{find-gather, firstHeld}
-use Rattle.slots.proofs.Relaid.{well-entries, run-in, with-here, entries-in, names-in, freed-view, freed, taken-view, taken}
+use Rattle.slots.proofs.Relaid.{run-in, with-here, entries-in, names-in, freed-view, freed, taken-view, taken}
 use lib.Seq.{length-take-le}
 use lib.ListN.{length-drop}
 use Rattle.runs.specs.Runs.{total as lengths}

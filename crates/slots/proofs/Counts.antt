@@ -26,7 +26,7 @@ use Rattle.slots.specs.View.{ifUsed, heldIn, slotsOf, slots, viewOf, Lai
 use Rattle.slots.specs.declared.Editor.{Editor}
 use Rattle.slots.proofs.Gather.{gather-entries, gather-names, gather-paths, gather-length}
 use Rattle.slots.proofs.Where.{Bits, digits-bits}
-use Rattle.slots.proofs.Relaid.{well-entries}
+use Rattle.model.proofs.RawLaws.{well-entries}
 
 -- ---- sums of the lengths
 

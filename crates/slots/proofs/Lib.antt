@@ -1,4 +1,5 @@
 -- The laws that the proofs of several functions share.
+pub mod Cached
 pub mod Calls
 pub mod Counts
 pub mod Emptied

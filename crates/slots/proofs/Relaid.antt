@@ -1,7 +1,7 @@
 -- What a change of one slot leaves of the layout's rules, and what it makes of the view. Assumes nothing.
 use mathlib.Core.Path.{_≡_, refl, sym, ap, ap₂, _∙_, subst}
 use mathlib.Core.Logic.{_≢_}
-use mathlib.Core.Bool.{Bool, true, false, _&&_}
+use mathlib.Core.Bool.{Bool, true, false}
 use mathlib.Core.Option.{some}
 use mathlib.Core.List.{List, [], _∷_, _++_, map}
 use Prim.Native.Nat.{ℕ, zero, suc, _+_, _≤_, _<_}
@@ -11,10 +11,10 @@ use borrow.Author.Tests.{eqb-true, eqb-false}
 use lib.ListN.{length, getD, set}
 use lib.Seq.{getD-set-other, getD-set-same}
 use Rattle.model.specs.Bytes.{Bytes}
-use Rattle.model.specs.Map.{find, put, del, rising}
-use Rattle.model.specs.Tree.{Tree, key, among, distinct, nameBytes, goodEntries, wellFormed}
+use Rattle.model.specs.Map.{find, put, del}
+use Rattle.model.specs.Tree.{Tree, among, distinct, nameBytes, wellFormed}
 use Rattle.model.specs.Editor.{Held, at, entryCount, nameCount}
-use Rattle.model.proofs.Basics.{and-left}
+use Rattle.model.proofs.RawLaws.{well-entries}
 use Rattle.model.proofs.SoundTrees.{total}
 use Rattle.model.proofs.RoomCounts.{entries-total, names-total}
 use Rattle.runs.specs.Digits.{digits}
@@ -28,10 +28,6 @@ use Rattle.slots.specs.declared.Editor.{Editor}
 use Rattle.slots.proofs.Gather.{gather-entries, gather-names, total-mid, total-more, distinct-insert, distinct-remove, distinct-before, gather-mid}
 use Rattle.model.proofs.MapLaws.{find-put-same}
 use Rattle.slots.proofs.Slots.{front, back, slot, split-used, split-free, run-used, view-run, view-free, view-take, apart-run, slots-set}
-
-pub well-entries : (w : ℕ) (t : Tree) → wellFormed w t ≡ true → goodEntries w t ≡ true
-unfolding wellFormed
-well-entries w t h = and-left (goodEntries w t) (rising key t) (and-left (goodEntries w t && rising key t) (distinct (map (λ e. e .name) t)) h)
 
 pub well-unpacked : (w : ℕ) (t : Tree) → wellFormed w t ≡ true → unpack w (packedAll t) ≡ t
 well-unpacked w t h = unpacked w t (wide-good w t (well-entries w t h))

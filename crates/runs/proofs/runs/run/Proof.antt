@@ -1,13 +1,11 @@
 -- `runs::runs::run` meets its contract, by the law of an edit of one run. Assumes nothing.
 use borrow.Author.Needs.{needs}
-use mathlib.Core.Path.{_≡_, ap, ap₂, _∙_, sym, refl}
-use mathlib.Core.List.{List}
-use Prim.Native.Nat.{ℕ, _+_, _-_, _*_, _≤_, _<_, _^_}
+use mathlib.Core.Path.{_≡_, ap₂}
+use Prim.Native.Nat.{ℕ, _+_, _-_, _≤_}
 use native.Mathlib.Omega.{arith}
-use lib.ListN.{length, take, drop, getD}
-use Rattle.runs.specs.Moves.{over, inserted, removed, part}
-use Rattle.runs.specs.Runs.{total, Sound}
-use Rattle.runs.proofs.Laws.{total-within, edited-sum, insert-view, remove-view}
+use lib.ListN.{take, drop, getD}
+use Rattle.runs.specs.Runs.{total}
+use Rattle.runs.proofs.Laws.{total-within}
 use Rattle.runs.proofs.runs.run.Statement.{statement}
 use Rattle.runs.proofs.runs.run.Tie as tie
 

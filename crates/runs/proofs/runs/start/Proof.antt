@@ -1,8 +1,8 @@
 -- `runs::runs::start` meets its contract: the sum so far is that of the first i lengths. Assumes nothing.
-use mathlib.Core.Path.{_≡_, ap, _∙_, sym}
-use Prim.Native.Nat.{ℕ, _+_, _*_, _-_, _≤_}
+use mathlib.Core.Path.{_≡_, ap, _∙_}
+use Prim.Native.Nat.{ℕ, _-_, _≤_}
 use native.Mathlib.Omega.{arith}
-use lib.ListN.{length, take}
+use lib.ListN.{take}
 use Rattle.runs.specs.Runs.{total}
 use Rattle.runs.proofs.Laws.{total-more, total-within}
 use Rattle.runs.proofs.runs.start.Statement.{statement}

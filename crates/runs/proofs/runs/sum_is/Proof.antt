@@ -1,14 +1,11 @@
 -- `runs::runs::sum_is` meets its contract: what is left and the sum so far make `used`. Assumes nothing.
-use borrow.Author.Needs.{needs}
-use borrow.Author.Tests.{eq-eqb, ne-eqb}
+use borrow.Author.Tests.{ne-eqb}
 use mathlib.Core.Path.{_≡_, ap, _∙_, sym}
-use mathlib.Core.Bool.{Bool}
 use mathlib.Core.List.{List}
 use Prim.Native.Nat.{ℕ, _+_, _-_, _≤_}
 use native.Mathlib.Omega.{arith}
 use lib.ListN.{length, take}
 use lib.Seq.{take-all}
-use lib.Dec.{eqb}
 use Rattle.runs.specs.Runs.{total}
 use Rattle.runs.proofs.Laws.{total-more, total-within, eqb-shift}
 use Rattle.runs.proofs.runs.sum_is.Statement.{statement}

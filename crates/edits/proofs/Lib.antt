@@ -1,0 +1,6 @@
+pub mod EditLaws
+pub mod FrontLaws
+pub mod IdLaws
+pub mod LookLaws
+pub mod PassLaws
+pub mod TableLaws

@@ -1,0 +1,6 @@
+pub mod Answers
+pub mod Edits
+pub mod Fronts
+pub mod Ids
+pub mod Looks
+pub mod Objects

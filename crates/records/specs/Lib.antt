@@ -1,0 +1,5 @@
+pub mod Answers
+pub mod Hex
+pub mod Places
+pub mod Records
+pub mod Texts

@@ -1,0 +1,20 @@
+#!/usr/bin/env bash
+# Makes tests/data/oracle-answers.txt and small-answers.txt anew: the oracle's answers to fixed lists of calls and inputs.
+# Needs cargo; everything else in the gate replays the files without Rust.
+set -euo pipefail
+cd "$(dirname "$0")/.."
+(cd oracle && cargo build --offline --release -q -j1)
+mkdir -p target
+shows() {  # full dumps at some calls only, to keep the file small
+  awk '/^trace /{print; print "dump off"; next} /^dump/{next} {print} NR % 6 == 0 && !/^object|^table/{print "show"}'
+}
+{
+  python3 tools/cases.py | grep -v '^#' | grep .
+  python3 tools/traces.py --seed 2026 --count 150 --kind normal --length 16 --most 3000 | shows
+  python3 tools/traces.py --seed 2026 --count 90 --kind write --length 16 --most 4000 | shows
+  python3 tools/traces.py --seed 2026 --count 60 --kind limits --length 20 --most 12000 | grep -v '^show'
+} > target/fixed-list.txt
+python3 tools/compare_traces.py --record tests/data/oracle-answers.txt \
+  --header "The answers of the oracle (oracle/README.md) to a fixed list of calls.|Made by tools/record_answers.sh; read and replayed by tools/compare_traces.py --replay." \
+  target/fixed-list.txt -- oracle/target/release/oracle-trace
+python3 tools/compare_small.py --record tests/data/small-answers.txt -- oracle/target/release/oracle-small
