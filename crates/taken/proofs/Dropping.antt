@@ -1,5 +1,5 @@
 -- Slots dropped one after the other: so far those of the map below a place are free, and the rest holds what it held. Assumes nothing.
-use mathlib.Core.Path.{_≡_, refl, sym, ap, ap₂, _∙_}
+use mathlib.Core.Path.{_≡_, refl, sym, ap, _∙_}
 use mathlib.Core.Bool.{Bool, true, false, not, _&&_}
 use mathlib.Core.List.{List, [], _∷_, _++_, map, reverse, reverse-cons}
 use Prim.Native.Nat.{ℕ, zero, suc, _+_, _≤_, _<_, compare, Ordering, Ordering·lt, Ordering·eq, Ordering·gt}
@@ -7,18 +7,16 @@ use native.Mathlib.Omega.{arith}
 use native.Mathlib.Numerals.{add-one}
 use lib.Dec.{eqb}
 use borrow.Author.Tests.{eqb-true, eqb-false}
-use lib.ListN.{length, take, getD, set, length-set, replicate, length-replicate, getD-replicate}
+use lib.ListN.{length, take, getD, set, length-set}
 use lib.Seq.{getD-set-same, getD-set-other, take-all, ext-getD}
-use Rattle.model.specs.Bytes.{Bytes, by, has}
+use Rattle.model.specs.Bytes.{by, has}
 use Rattle.model.specs.Editor.{Held}
 use Rattle.model.specs.Write.{bottom}
 use Rattle.model.proofs.Basics.{no-way, and-left, and-right, not-true}
 use Rattle.model.proofs.ByteLaws.{has-here}
 use Rattle.runs.specs.Digits.{digits}
-use Rattle.runs.specs.Runs.{cut}
 use Rattle.runs.proofs.DigitLaws.{length-digits, digit-same, digit-zero}
-use Rattle.runs.proofs.Laws.{length-cut}
-use Rattle.slots.specs.View.{slotsOf, gather, heldIn, Laid, Used, SameWrite, marked, heldAt, cachedOf}
+use Rattle.slots.specs.View.{Laid, Used, SameWrite, marked}
 use Rattle.slots.specs.declared.Editor.{Editor}
 use Rattle.taken.specs.Taken.{Marks, Between, SameTree, either, joined, markIf}
 use Rattle.taken.proofs.Marking.{marked-here, marked-other, not-marked, all-has}
@@ -161,67 +159,6 @@ module _ (r : Editor) (ks : List ℕ) (m : Marks r ks) (k : ℕ) (i : has k ks �
       left-between s fs hs low from ea es order l =
           let z : Editor = record { free = s .free; hidden = s .free; paths = s .paths; trees = s .trees; entries = s .entries; names = s .names; «open» = s .«open»; aside = s .aside; stacked = s .stacked; asked = s .asked } in
           open-between z k refl (used-same q z fs k left-still) s refl (ap (digits 64) hs ∙ left-only ∙ ap (λ (x : ℕ). set (digits 64 x) k 1) (sym fs)) ea es low from order l
-
--- ---- one slot of all is left
-
-all-ones : digits 64 0xffff_ffff_ffff_ffff ≡ replicate 64 1
-unfolding digits
-all-ones = refl
-
-pub ones-at : (k : ℕ) → k < 64 → getD (digits 64 0xffff_ffff_ffff_ffff) k 0 ≡ 1
-ones-at k h = ap (λ (x : List ℕ). getD x k 0) all-ones ∙ getD-replicate 64 k 1 0 h
-
-none-shown : (w n : ℕ) (ps bs : List Bytes) → slotsOf w (replicate n 1) ps bs ≡ []
-unfolding slotsOf
-none-shown w zero ps bs = refl
-none-shown w (suc n) [] bs = refl
-none-shown w (suc n) (p ∷ ps) [] = refl
-none-shown w (suc n) (p ∷ ps) (b ∷ bs) = none-shown w n ps bs
-
-pub one-shown : (w n k : ℕ) (ps bs : List Bytes) → k < n → length ps ≡ n → length bs ≡ n → slotsOf w (set (replicate n 1) k 0) ps bs ≡ heldIn w (getD ps k []) (getD bs k []) ∷ []
-unfolding slotsOf
-one-shown w zero k ps bs h l r = absurd (omega arith)
-one-shown w (suc n) k [] bs h l r = absurd (omega arith)
-one-shown w (suc n) k (p ∷ ps) [] h l r = absurd (omega arith)
-one-shown w (suc n) zero (p ∷ ps) (b ∷ bs) h l r = ap (λ (m : List Held). heldIn w p b ∷ m) (none-shown w n ps bs)
-one-shown w (suc n) (suc k) (p ∷ ps) (b ∷ bs) h l r = one-shown w n k ps bs (omega arith) (omega arith) (omega arith)
-
-module _ (r : Editor) (k : ℕ) (u : Used r k) (gone : ℕ) (eg : digits 64 gone ≡ set (digits 64 0xffff_ffff_ffff_ffff) k 0) where
-  gone-is : digits 64 gone ≡ set (replicate 64 1) k 0
-  gone-is = eg ∙ ap (λ (l : List ℕ). set l k 0) all-ones
-
-  pub sole-self : getD (digits 64 gone) k 0 ≡ 0
-  sole-self = ap (λ (x : List ℕ). getD x k 0) gone-is ∙ getD-set-same (replicate 64 1) k 0 0 (omega (arith, u .low, length-replicate {A = ℕ} 64 1))
-
-  module _ (q : Editor) (ef : digits 64 (q .free) ≡ joined (digits 64 gone) (digits 64 (r .free))) where
-    -- just the others are free
-    pub sole-free : digits 64 (q .free) ≡ set (replicate 64 1) k 0
-    sole-free =
-        ext-getD 0 (digits 64 (q .free)) (set (replicate 64 1) k 0) (length-digits 64 (q .free) ∙ sym (length-set (replicate 64 1) k 0 ∙ length-replicate {A = ℕ} 64 1))
-        (λ j h. let i : j < 64 = omega (arith, length-digits 64 (q .free)) in at-place j i (eqb j k) refl ∙ ap (λ (x : List ℕ). getD x j 0) gone-is)
-      where
-        free-is : (j : ℕ) → j < 64 → getD (digits 64 (q .free)) j 0 ≡ either (getD (digits 64 gone) j 0) (getD (digits 64 (r .free)) j 0)
-        free-is j h = ap (λ (x : List ℕ). getD x j 0) ef ∙ joined-at (digits 64 gone) (digits 64 (r .free)) j (omega (arith, length-digits 64 gone)) (omega (arith, length-digits 64 (r .free)))
-
-        at-place : (j : ℕ) → j < 64 → (t : Bool) → eqb j k ≡ t → getD (digits 64 (q .free)) j 0 ≡ getD (digits 64 gone) j 0
-        at-place j h true e =
-            let s = eqb-true j k e in
-            let g : getD (digits 64 gone) j 0 ≡ 0 = ap (λ (x : ℕ). getD (digits 64 gone) x 0) s ∙ sole-self in
-            free-is j h ∙ ap (λ (x : ℕ). either x (getD (digits 64 (r .free)) j 0)) g ∙ ap (λ (x : ℕ). getD (digits 64 (r .free)) x 0) s ∙ u .used ∙ sym g
-        at-place j h false e =
-            let g : getD (digits 64 gone) j 0 ≡ 1 = ap (λ (x : List ℕ). getD x j 0) gone-is ∙ getD-set-other (replicate 64 1) k j 0 0 (eqb-false j k e) ∙ getD-replicate 64 j 1 0 h in
-            free-is j h ∙ ap (λ (x : ℕ). either x (getD (digits 64 (r .free)) j 0)) g ∙ sym g
-
-    pub sole-used : Used q k
-    sole-used = record { low = u .low; used = ap (λ (x : List ℕ). getD x k 0) sole-free ∙ getD-set-same (replicate 64 1) k 0 0 (omega (arith, u .low, length-replicate {A = ℕ} 64 1)) }
-
-    pub sole-cache : (s : Editor) → s .hidden ≡ q .free → (w : ℕ) (plens paths tlens trees plens′ paths′ tlens′ trees′ : List ℕ) → length plens′ ≡ 64 → length tlens′ ≡ 64 →
-        SameTree plens paths tlens trees plens′ paths′ tlens′ trees′ k → cachedOf w s plens′ paths′ tlens′ trees′ ≡ heldAt w plens paths tlens trees k ∷ []
-    unfolding gather
-    sole-cache s e w plens paths tlens trees plens′ paths′ tlens′ trees′ p t x =
-        ap gather (ap (λ (d : List ℕ). slotsOf w d (cut plens′ paths′) (cut tlens′ trees′)) (ap (digits 64) e ∙ sole-free)
-        ∙ one-shown w 64 k (cut plens′ paths′) (cut tlens′ trees′) (u .low) (length-cut plens′ paths′ ∙ p) (length-cut tlens′ trees′ ∙ t))
-        ∙ ap₂ (λ (y z : Bytes). heldIn w y z ∷ []) (x .path) (x .run)
 
 -- ---- the start tree
 

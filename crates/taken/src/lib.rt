@@ -3,7 +3,7 @@
 ghost use mathlib.Core.Path.{_≡_};
 ghost use Prim.Native.Nat.{ℕ, _+_, _-_, _≤_, _<_};
 ghost use mathlib.Core.List.{List, [], _∷_};
-ghost use lib.ListN.{length, getD, set};
+ghost use lib.ListN.{length, getD, set, replicate};
 ghost use Rattle.model.specs.Bytes.{has};
 ghost use Rattle.model.specs.Write.{bottom};
 ghost use mathlib.Core.Option.{none};
@@ -12,6 +12,7 @@ ghost use lib.Dec.{eqb};
 ghost use Rattle.model.specs.Map.{put, del};
 ghost use Rattle.model.specs.Editor.{at};
 ghost use Rattle.runs.specs.Digits.{digits};
+ghost use Rattle.runs.specs.Runs.{cut, Sound};
 ghost use Rattle.slots.specs.View.{Laid, Used, Ordered, SameWrite, editorOf, heldAt, pathOf, cachedOf, asideOf};
 ghost use Rattle.taken.specs.Taken.{goingOf, stackedOn, keptOn, takenOff, Between, Cached, SameSlots, SameTree, writingOf, allTaken, joined, markIf};
 use slots::Editor;
@@ -254,6 +255,20 @@ pub fn drop_others(
     }
 }
 
+// Every run but the run k becomes empty; gives its length.
+fn keep_run(lens: &mut [u64], bytes: &mut [u8], used: usize, k: usize) -> usize
+    requires { ⌜ Sound (now lens) (now bytes) used × (length (now lens) ≡ 64) × (k < 64) ⌝ }
+    ensures view { λ n. ⌜ cut (now (lens .exit)) (now (bytes .exit)) ≡ set (replicate 64 []) k (getD (cut (now (lens .entry)) (now (bytes .entry))) k []) ⌝ }
+    ensures sound { λ n. ⌜ Sound (now (lens .exit)) (now (bytes .exit)) n × (n ≡ getD (now (lens .entry)) k 0) ⌝ }
+{
+    let a = runs::runs::start(lens, k);
+    let n = lens[k] as usize;
+    runs::moves::remove(bytes, 0, a + n, a);
+    runs::runs::clear(lens);
+    lens[k] = n as u64;
+    n
+}
+
 // Drops every tree but the one in a slot, which is cached then, and the write.
 pub fn keep_only(
     r: Editor,
@@ -271,7 +286,23 @@ pub fn keep_only(
     ensures others { λ q. ⌜ Used q slot × SameTree (now (plens .entry)) (now (paths .entry)) (now (tlens .entry)) (now (trees .entry)) (now (plens .exit)) (now (paths .exit)) (now (tlens .exit)) (now (trees .exit)) slot ⌝ }
     ensures same { λ q. ⌜ (q .hidden ≡ q .free) × (q .«open» ≡ 0) ⌝ }
 {
-    let gone = runs::free::take(0xffff_ffff_ffff_ffff, slot);
-    let ed = drop_each(r, plens, paths, tlens, trees, width, gone);
-    close(ed)
+    let np = r.paths;
+    let nt = r.trees;
+    let es = names::compact::count(runs::runs::run(tlens, trees, nt, slot), width);
+    let p = keep_run(plens, paths, np, slot);
+    let t = keep_run(tlens, trees, nt, slot);
+    let ns = t - es * (2 + width);
+    let f = runs::free::take(0xffff_ffff_ffff_ffff, slot);
+    Editor {
+        free: f,
+        hidden: f,
+        paths: p,
+        trees: t,
+        entries: es,
+        names: ns,
+        open: 0,
+        aside: 0,
+        stacked: 0,
+        asked: 0,
+    }
 }
