@@ -14,7 +14,7 @@ use Rattle.model.specs.Bytes.{Bytes, isNil, by, has}
 use Rattle.model.specs.Map.{find}
 use Rattle.model.specs.Tree.{Entry, Tree, asKind, key, goodName, orElse, wellFormed}
 use Rattle.model.specs.Order.{All}
-use Rattle.model.specs.Paths.{pieces, base}
+use Rattle.model.specs.Paths.{pieces, components, base}
 use Rattle.model.proofs.ChangeLaws.{Plain}
 use Rattle.model.proofs.DirBaseLaws.{base-self}
 use Rattle.model.proofs.OrderTheorem.{pieces-plain}
@@ -23,6 +23,11 @@ use Rattle.model.proofs.SoundTrees.{name-of, sound-well}
 use Rattle.model.proofs.WriteKeepsTrees.{good-find}
 use Rattle.names.specs.Places.{firstPiece}
 use Rattle.edits.proofs.FrontLaws.{pieces-some, piece-short, piece-slash, pieces-next, pieces-end}
+
+-- a path of some bytes has components
+pub components-some : (path : Bytes) → (length path ≡ 0 → ⊥) → components path ≡ pieces path
+components-some [] n = absurd (n refl)
+components-some (b ∷ bs) n = refl
 
 -- the components after the one of k bytes, which is the last or not
 abbrev pub restOf : Bool → Bytes → ℕ → List Bytes

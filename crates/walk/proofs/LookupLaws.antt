@@ -40,7 +40,7 @@ use Rattle.walk.specs.declared.look.Looked.{Looked}
 use Rattle.walk.specs.declared.look.Looked.the-variants.{Found, Missing}
 use Rattle.walk.specs.declared.look.Next.{Next}
 use Rattle.walk.specs.declared.look.Next.the-variants.{Over, In}
-use Rattle.walk.proofs.ComponentLaws.{restOf, rest-nil, last-base, not-last, next-base, pieces-are, either-named}
+use Rattle.walk.proofs.ComponentLaws.{components-some, restOf, rest-nil, last-base, not-last, next-base, pieces-are, either-named}
 
 -- one step, by the entry that was seen
 on-none : (b c : Bool) (rest : model.Looked) → lookOn b c rest none ≡ model.missing
@@ -115,10 +115,6 @@ pub record Looking (r : Editor) (plens paths tlens trees : List ℕ) (whole : By
   pub front : Front whole (pathOf plens paths slot) p
   pub named : base p ≡ base path
   pub rest : goal ≡ look (pieces p) (pathOf plens paths slot) (viewOf 20 r plens paths tlens trees)
-
-components-some : (path : Bytes) → (length path ≡ 0 → ⊥) → components path ≡ pieces path
-components-some [] n = absurd (n refl)
-components-some (b ∷ bs) n = refl
 
 pub look-empty : (path q : Bytes) (c : Cache) → length path ≡ 0 → model.missing ≡ look (components path) q c
 look-empty [] q c e = refl
