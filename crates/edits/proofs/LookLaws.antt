@@ -17,10 +17,11 @@ use Rattle.model.specs.Search.{searched}
 use Rattle.model.proofs.Basics.{none-some, and-left, and-right}
 use Rattle.model.proofs.ByteLaws.{same-eq, same-refl}
 use Rattle.model.proofs.ChangeLaws.{Plain, keys-differ}
-use Rattle.model.proofs.MapLaws.{compare-refl, cmp-refl, cmp-eq, find-none, above-less, rising-tail}
+use Rattle.model.proofs.MapLaws.{cmp-refl, cmp-eq, find-none, above-less, rising-tail}
 use Rattle.model.proofs.RawLaws.{more-inv, well-entries, read-only}
 use Rattle.model.proofs.SearchLaws.{Right, halving-right}
 use Rattle.model.proofs.SoundTrees.{name-plain, sound-well}
+use Rattle.names.proofs.FollowLaws.{file-tree}
 use Rattle.names.specs.Answers.{asMode, entryRead}
 use Rattle.names.specs.Compact.{unpack, blank, entryAt, spotOf, Tells}
 use Rattle.names.specs.Places.{readEntryAt, entryFound, entriesAt}
@@ -68,10 +69,6 @@ module _ (n : Bytes) (t : Tree) where
   by-second false o e f = ap₂ (λ (x y : Option Entry). orElse x y) e f
 
 -- the entry of a name among entries in order, the first of them at hand
-before-slash : (n : Bytes) → cmp n (n ++ (47 ∷ [])) ≡ Ordering·lt
-before-slash [] = refl
-before-slash (x ∷ n) = rw (compare-refl x) (before-slash n)
-
 entry-here : (x : Entry) (xs : Tree) (n : Bytes) → x .name ≡ n → entryOf n (x ∷ xs) ≡ some x
 entry-here x xs n e = go (isTree (x .mode)) refl
   where
@@ -81,7 +78,7 @@ entry-here x xs n e = go (isTree (x .mode)) refl
         rw (k, cmp-refl n)
     go true f =
         let k : key x ≡ n ++ (47 ∷ []) = ap₂ asKind f e in
-        rw (k, before-slash n, cmp-refl (n ++ (47 ∷ [])))
+        rw (k, file-tree n, cmp-refl (n ++ (47 ∷ [])))
 
 find-past : (x : Entry) (xs : Tree) (n : Bytes) → Plain n → Plain (x .name) → x .name ≢ n → rising key (x ∷ xs) ≡ true → (b : Bool) → find key (asKind b n) (x ∷ xs) ≡ find key (asKind b n) xs
 find-past x xs n p q ne r b = go (cmp (asKind b n) (key x)) refl

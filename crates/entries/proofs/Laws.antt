@@ -1,18 +1,17 @@
 -- Laws of edits of a tree: the model's maps by places, and the bytes. Assumes nothing.
 use mathlib.Core.Path.{_≡_, refl, sym, ap, ap₂, _∙_, subst}
-use mathlib.Core.Bool.{Bool, true, false, not, _&&_}
+use mathlib.Core.Bool.{Bool, true, false, not}
 use mathlib.Core.Option.{none, some}
 use mathlib.Core.List.{List, [], _∷_, _++_, append-assoc}
-use Prim.Native.Nat.{ℕ, suc, _+_, _≤_, _<_, Ordering, Ordering·lt, Ordering·eq, Ordering·gt}
+use Prim.Native.Nat.{ℕ, suc, _+_, _≤_, _<_, Ordering·lt}
 use native.Mathlib.Omega.{arith}
 use native.Mathlib.Nat.{zero-add}
-use lib.Dec.{eqb}
 use lib.ListN.{length, take, drop, getD, length-append, length-drop, take-append-drop}
 use lib.Seq.{take-at, drop-at, drop-cons, split-at}
-use Rattle.model.specs.Bytes.{Bytes, cmp, by}
+use Rattle.model.specs.Bytes.{Bytes, cmp}
 use Rattle.model.specs.Map.{find, put, del, risingFrom, rising}
-use Rattle.model.specs.Tree.{Mode, Entry, Tree, asKind, key, isTree, withEntry, goodName, goodEntries, wellFormed, nameBytes}
-use Rattle.model.proofs.Basics.{and-left, and-right, some-none}
+use Rattle.model.specs.Tree.{Mode, Entry, Tree, asKind, key, isTree, withEntry, goodName, wellFormed, nameBytes}
+use Rattle.model.proofs.Basics.{some-none}
 use Rattle.model.proofs.RawLaws.{well-entries}
 use Rattle.model.proofs.SwapShared.{well-rising}
 use Rattle.model.proofs.MapLaws.{cmp-refl, cmp-lt, cmp-trans, above-head, above-tail, rising-of-above, rising-del, find-del-same, find-del-other}
@@ -21,7 +20,7 @@ use Rattle.model.proofs.SearchLaws.{Right, halving-right}
 use Rattle.model.proofs.SoundTrees.{sound-well, name-plain, find-key, del-absent}
 use Rattle.model.proofs.RoomCounts.{name-of}
 use Rattle.model.specs.Editor.{at}
-use Rattle.model.proofs.WellFormedLaws.{sound-del, sound-distinct, well-with}
+use Rattle.model.proofs.WellFormedLaws.{sound-del, sound-distinct, well-with, good-del}
 use Rattle.runs.specs.Moves.{inserted, removed}
 use Rattle.names.specs.Compact.{packed, packedAll, unpack, Run, blank, entryAt, spotOf, Tells}
 use Rattle.names.specs.declared.compact.Place.{Place}
@@ -48,15 +47,6 @@ module _ {A : Type 0} (key : A → Bytes) where
       rw (q, cmp-lt (key b) (key x) (middle-above (key b) bs x cs r)) (ap (λ (l : List A). b ∷ l) (put-mid bs x a cs q (rising-of-above key (key b) (bs ++ (x ∷ cs)) r)))
 
 -- ---- a tree without one key is well formed
-
-good-del : (w : ℕ) (k : Bytes) (t : Tree) → goodEntries w t ≡ true → goodEntries w (del key k t) ≡ true
-good-del w k [] g = refl
-good-del w k (x ∷ xs) g = go (good-del w k xs (and-right (goodName (x .name) && eqb (length (x .id)) w) (goodEntries w xs) g)) (cmp k (key x))
-  where
-    go : goodEntries w (del key k xs) ≡ true → (o : Ordering) → goodEntries w (by o (x ∷ xs) xs (x ∷ del key k xs)) ≡ true
-    go ih Ordering·lt = g
-    go ih Ordering·eq = and-right (goodName (x .name) && eqb (length (x .id)) w) (goodEntries w xs) g
-    go ih Ordering·gt = rw (and-left (goodName (x .name) && eqb (length (x .id)) w) (goodEntries w xs) g) ih
 
 pub well-del : (w : ℕ) (k : Bytes) (t : Tree) → wellFormed w t ≡ true → wellFormed w (del key k t) ≡ true
 unfolding wellFormed

@@ -14,7 +14,7 @@ use Rattle.model.specs.Bytes.{Bytes, cmp, by, same}
 use Rattle.model.specs.Map.{risingFrom}
 use Rattle.model.specs.Tree.{isTree, Entry, Tree, asKind, key, goodName, among, distinct, goodEntries, wellFormed, nameBytes}
 use Rattle.model.specs.Raw.{more, ifGood}
-use Rattle.model.proofs.Basics.{none-some, some-inj, and-left, and-right}
+use Rattle.model.proofs.Basics.{none-some, some-inj, and-left, and-right, and-false}
 use Rattle.model.proofs.ByteLaws.{same-eq}
 use Rattle.names.specs.Answers.{asOrdering}
 use Rattle.names.specs.Check.{TreeSize, sizeOf, isLess, namesOf, treeAmong, TwinIs, wellAfter, plain, besides, wellPast, FitsIs}
@@ -25,7 +25,7 @@ use Rattle.names.specs.declared.neighbour.Standing.the-variants.{Apart, 
 use Rattle.names.specs.declared.order.Order.{Order}
 use Rattle.names.specs.declared.order.Order.the-variants.{Less, Equal, Greater}
 use Rattle.names.proofs.FollowLaws.{is-less, after-less, after-all, Proper, proper, none-after, early}
-use Rattle.names.proofs.StandingLaws.{good-plain, and-no}
+use Rattle.names.proofs.StandingLaws.{good-plain}
 
 -- the entries are one and those after it
 pub record Begins (here : Option Tree) (e : Entry) (there : Option Tree) : Type 0 where
@@ -224,7 +224,7 @@ past-nothing es = go (wellAfter [] es) refl
   where
     go : (t : Bool) → wellAfter [] es ≡ t → wellAfter [] es ≡ (not (among [] (namesOf es)) && wellAfter [] es)
     go true h = rw (none-empty es (proper [] es h))
-    go false h = h ∙ sym (rw h (and-no (not (among [] (namesOf es)))))
+    go false h = h ∙ sym (rw h (and-false (not (among [] (namesOf es)))))
 
 -- At a place of a check: `whole` is what it finds in the end, `here` the entries from there on.
 pub record Checking (whole : Option TreeSize) (len : ℕ) (here : Option Tree) (at n b : ℕ) (prev : Bytes) (tree : Bool) : Type 0 where

@@ -14,7 +14,7 @@ use borrow.Author.Tests.{le-leb, lt-leb, leb-true, lt-ltb, le-ltb, ltb-true, ne-
 use Rattle.model.specs.Bytes.{Bytes, cmp, same}
 use Rattle.model.specs.Tree.{Mode, TREE, BLOB, EXEC, LINK, COMMIT, isTree, Entry, Tree, asKind, key, wellFormed, nameBytes}
 use Rattle.model.specs.Raw.{more, ifGood}
-use Rattle.model.proofs.Basics.{none-some, some-inj}
+use Rattle.model.proofs.Basics.{none-some, some-inj, and-false}
 use Rattle.model.proofs.ByteLaws.{same-eq, same-refl}
 use Rattle.model.proofs.RawLaws.{more-inv, well-entries}
 use Rattle.names.specs.Compact.{kindOf, modeAt, packed, packedAll, unpack, Wide, Run}
@@ -24,7 +24,6 @@ use Rattle.names.proofs.CompactLaws.{mode-kind, wide-good, unpacked}
 use Rattle.names.specs.declared.judge.End.{End}
 use Rattle.names.specs.declared.judge.End.the-variants.{To, Damaged}
 use Rattle.names.proofs.FitLaws.{Begins}
-use Rattle.names.proofs.StandingLaws.{and-no}
 
 -- Where an entry ends.
 module _ (b : Bytes) (w at : ℕ) where
@@ -34,11 +33,11 @@ module _ (b : Bytes) (w at : ℕ) where
 
   pub end-short : length b < at + 2 → none ≡ endAt b w at
   unfolding endAt
-  end-short h = rw (lt-leb (at + 2) (length b) h, and-no (ltb (getD b at 0) 5))
+  end-short h = rw (lt-leb (at + 2) (length b) h, and-false (ltb (getD b at 0) 5))
 
   pub end-far : length b < at + 2 + w + getD b (at + 1) 0 → none ≡ endAt b w at
   unfolding endAt
-  end-far h = rw (lt-leb (at + 2 + w + getD b (at + 1) 0) (length b) h, and-no (ltb (getD b at 0) 5 && leb (at + 2) (length b)))
+  end-far h = rw (lt-leb (at + 2 + w + getD b (at + 1) 0) (length b) h, and-false (ltb (getD b at 0) 5 && leb (at + 2) (length b)))
 
   pub end-there : getD b at 0 < 5 → at + 2 + w + getD b (at + 1) 0 ≤ length b → some (at + 2 + w + getD b (at + 1) 0) ≡ endAt b w at
   unfolding endAt

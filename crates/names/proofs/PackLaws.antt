@@ -29,7 +29,7 @@ use Rattle.names.proofs.ReadLaws.{read-entries, no-more}
 use Rattle.names.proofs.WriteLaws.{Wrote, wrote-nothing, wrote-more, splice-whole}
 
 -- For a caller: what the check of a raw tree reports is what its compact form takes.
-size-inv : (o : Option Tree) (z : TreeSize) → some z ≡ sizeOf o → (t : Tree) × (o ≡ some t) × (z .entries ≡ length t) × (z .bytes ≡ nameBytes t)
+pub size-inv : (o : Option Tree) (z : TreeSize) → some z ≡ sizeOf o → (t : Tree) × (o ≡ some t) × (z .entries ≡ length t) × (z .bytes ≡ nameBytes t)
 size-inv none z e = none-some z (sym e)
 size-inv (some t) z e =
     let q = some-inj z (record { entries = length t; bytes = nameBytes t }) e in

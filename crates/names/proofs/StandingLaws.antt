@@ -2,7 +2,7 @@
 use Prim.Native.Nat.{ℕ, zero, suc, _+_, _≤_, _<_, compare, Ordering, Ordering·lt, Ordering·eq, Ordering·gt}
 use mathlib.Core.Path.{_≡_, refl, sym, ap, _∙_}
 use mathlib.Core.List.{[], _∷_, _++_}
-use mathlib.Core.Bool.{Bool, true, false, not, _&&_, true≢false, false≢true}
+use mathlib.Core.Bool.{Bool, true, false, not, true≢false, false≢true}
 use native.Mathlib.Numerals.{add-one}
 use native.Mathlib.Omega.{arith}
 use lib.ListN.{length, take, drop, getD, length-append, take-append-drop, drop-of-length-le}
@@ -10,7 +10,7 @@ use lib.Seq.{take-suc, drop-cons, take-append-le}
 use borrow.Author.Tests.{le-leb, not-true}
 use Rattle.model.specs.Bytes.{Bytes, cmp, by, same, has}
 use Rattle.model.specs.Tree.{asKind, goodName}
-use Rattle.model.proofs.Basics.{and-left, and-right}
+use Rattle.model.proofs.Basics.{and-left, and-right, and-false}
 use Rattle.model.proofs.ByteLaws.{compare-same, has-here, has-past}
 use Rattle.model.proofs.RawLaws.{name-no-nul}
 use Rattle.model.proofs.SoundTrees.{name-plain}
@@ -18,10 +18,6 @@ use Rattle.names.proofs.OrderLaws.{in-name, after-name, Comparing, ends
 use Rattle.names.specs.Check.{Shorter, Shares, plain, besides}
 use Rattle.names.specs.Standings.{StandsIn}
 use Rattle.names.specs.declared.neighbour.Standing.the-variants.{Apart, Within, Wrong}
-
-pub and-no : (b : Bool) → (b && false) ≡ false
-and-no true = refl
-and-no false = refl
 
 -- at place i of two names that are alike so far
 pub record Alike (a b : Bytes) (n i : ℕ) : Type 0 where
@@ -128,7 +124,7 @@ module _ {n : Bytes} {from i : ℕ} (at : Plain n from i) where
 
     pub plain-nul : getD n i 0 ≡ 0 → false ≡ plain (drop from n)
     unfolding plain
-    plain-nul e = sym (at .rest ∙ rw (drop-cons n i 0 h, has-here 0 (getD n i 0) (drop (suc i) n) e) (and-no (not (has 47 (getD n i 0 ∷ drop (suc i) n)))))
+    plain-nul e = sym (at .rest ∙ rw (drop-cons n i 0 h, has-here 0 (getD n i 0) (drop (suc i) n) e) (and-false (not (has 47 (getD n i 0 ∷ drop (suc i) n)))))
 
     pub plain-more : (getD n i 0 ≡ 47 → ⊥) → (getD n i 0 ≡ 0 → ⊥) → Plain n from (i + 1)
     unfolding plain
@@ -166,7 +162,7 @@ module _ (p : Bytes) (pt : Bool) (n : Bytes) (t : Bool) where
 
     may-not : cmp (asKind pt p) (asKind t n) ≡ Ordering·gt → besides p pt n t ≡ false
     unfolding besides
-    may-not l = rw (gn, l) (and-no (not (same p n)))
+    may-not l = rw (gn, l) (and-false (not (same p n)))
 
     twice : same p n ≡ true → besides p pt n t ≡ false
     unfolding besides

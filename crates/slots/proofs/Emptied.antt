@@ -14,7 +14,7 @@ use Rattle.runs.proofs.Laws.{cut-none, total-none}
 use Rattle.names.specs.Compact.{packedAll, unpackIn, unpack}
 use Rattle.slots.specs.View.{slotsOf, slots, gather, viewOf, treeRoom, Laid, Ordered, fresh}
 
-all-free : digits 64 0xffff_ffff_ffff_ffff ≡ replicate 64 1
+pub all-free : digits 64 0xffff_ffff_ffff_ffff ≡ replicate 64 1
 unfolding digits
 all-free = refl
 
@@ -24,7 +24,7 @@ run-none l b k e h = ap (λ (x : List ℕ). getD (cut x b) k []) e ∙ ap (λ (x
 sound-none : (l b : List ℕ) → l ≡ replicate 64 0 → Sound l b 0
 sound-none l b e = record { sum = ap total e ∙ total-none 64; fits = omega arith }
 
-none-used : (w n : ℕ) (ps bs : List Bytes) → slotsOf w (replicate n 1) ps bs ≡ []
+pub none-used : (w n : ℕ) (ps bs : List Bytes) → slotsOf w (replicate n 1) ps bs ≡ []
 unfolding slotsOf
 none-used w zero ps bs = refl
 none-used w (suc n) [] bs = refl

@@ -13,14 +13,11 @@ use Rattle.model.specs.Tree.{among, distinct, nameBytes}
 use Rattle.model.specs.Editor.{Held, at, Cache, entryCount, nameCount, pathCount}
 use Rattle.model.proofs.MapLaws.{cmp-refl, find-put-same, find-put-other, put-put, put-put-same, rising-put, ext}
 use Rattle.model.proofs.Basics.{and-left, and-right, or-left, or-right, not-true}
-use Rattle.model.proofs.ByteLaws.{same-eq, same-refl}
+use Rattle.model.proofs.ByteLaws.{same-eq, same-refl, same-not, same-turn}
 use Rattle.model.proofs.SoundTrees.{total, total-put-new}
 use Rattle.model.proofs.RoomCounts.{trees-total, entries-total, names-total, paths-total}
 use Rattle.model.proofs.ValidSums.{total-append}
 use Rattle.slots.specs.View.{gather}
-
-pub differ : (a b : Bytes) → same a b ≡ false → a ≢ b
-differ a b e q = let z : true ≡ false = sym (same-refl b) ∙ ap (λ (x : Bytes). same x b) (sym q) ∙ e in absurd (let y : _≡_ {A = ℕ} 0 1 = cc in omega arith)
 
 -- the cache is in order
 pub gather-rising : (hs : List Held) → rising at (gather hs) ≡ true
@@ -41,7 +38,7 @@ find-gather p (h ∷ hs) = go (find-gather p hs) (same p (h .path)) refl
   where
     go : find at p (gather hs) ≡ firstHeld p hs → (b : Bool) → same p (h .path) ≡ b → find at p (put at h (gather hs)) ≡ cond b (some h) (firstHeld p hs)
     go ih true e = ap (λ (q : Bytes). find at q (put at h (gather hs))) (same-eq p (h .path) e) ∙ find-put-same at h (gather hs)
-    go ih false e = find-put-other at p h (gather hs) (differ p (h .path) e) ∙ ih
+    go ih false e = find-put-other at p h (gather hs) (same-not p (h .path) e) ∙ ih
 
 pub not-found : (p : Bytes) (hs : List Held) → among p (map at hs) ≡ false → find at p (gather hs) ≡ none
 unfolding firstHeld
@@ -59,7 +56,7 @@ unfolding gather
 gather-mid [] h b n = refl
 gather-mid (x ∷ a) h b n =
     ap (put at x) (gather-mid a h b (or-right (same (h .path) (x .path)) (among (h .path) (map at a)) n))
-    ∙ put-put at x h (gather (a ++ b)) (λ e. differ (h .path) (x .path) (or-left (same (h .path) (x .path)) (among (h .path) (map at a)) n) (sym e))
+    ∙ put-put at x h (gather (a ++ b)) (λ e. same-not (h .path) (x .path) (or-left (same (h .path) (x .path)) (among (h .path) (map at a)) n) (sym e))
 
 -- a slot's tree is changed
 pub gather-change : (a : List Held) (h k : Held) (b : List Held) → among (h .path) (map at a) ≡ false → k .path ≡ h .path → gather (a ++ (k ∷ b)) ≡ put at k (gather (a ++ (h ∷ b)))
@@ -156,13 +153,6 @@ total-more f a h b = omega (arith, total-append f a (h ∷ b), total-append f a 
 
 -- ---- a slot more, or one fewer, at different paths
 
-same-not : (a b : Bytes) → same a b ≡ false → same b a ≡ false
-same-not a b e = go (same b a) refl
-  where
-    go : (t : Bool) → same b a ≡ t → t ≡ false
-    go false q = refl
-    go true q = sym (same-refl a) ∙ ap (same a) (sym (same-eq b a q)) ∙ e
-
 or-false : (b c : Bool) → b ≡ false → c ≡ false → (b || c) ≡ false
 or-false b c e f = rw e f
 
@@ -186,7 +176,7 @@ distinct-insert [] h b n d = and-true (not (among (h .path) (map at b))) (distin
 distinct-insert (x ∷ a) h b n d =
     let fresh : among (x .path) (map at (a ++ b)) ≡ false = not-true (among (x .path) (map at (a ++ b))) (and-left (not (among (x .path) (map at (a ++ b)))) (distinct (map at (a ++ b))) d) in
     and-true (not (among (x .path) (map at (a ++ (h ∷ b))))) (distinct (map at (a ++ (h ∷ b))))
-    (ap not (among-insert (x .path) a h b fresh (same-not (h .path) (x .path) (or-left (same (h .path) (x .path)) (among (h .path) (map at (a ++ b))) n))))
+    (ap not (among-insert (x .path) a h b fresh (same-turn (x .path) (h .path) ∙ or-left (same (h .path) (x .path)) (among (h .path) (map at (a ++ b))) n)))
     (distinct-insert a h b (or-right (same (h .path) (x .path)) (among (h .path) (map at (a ++ b))) n) (and-right (not (among (x .path) (map at (a ++ b)))) (distinct (map at (a ++ b))) d))
 
 pub distinct-remove : (a : List Held) (h : Held) (b : List Held) → distinct (map at (a ++ (h ∷ b))) ≡ true → distinct (map at (a ++ b)) ≡ true

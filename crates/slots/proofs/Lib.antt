@@ -4,6 +4,7 @@ pub mod Calls
 pub mod Counts
 pub mod Emptied
 pub mod Gather
+pub mod Marked
 pub mod Relaid
 pub mod Slots
 pub mod Where

@@ -8,7 +8,7 @@ use native.Mathlib.Omega.{arith}
 use borrow.Author.Tests.{eqb-true, eqb-false, eq-eqb, ne-eqb, ltb-true, lt-ltb, le-ltb}
 use lib.Arith.{lt-one}
 use lib.Dec.{eqb, ltb}
-use lib.ListN.{length, take, drop, getD, set, length-set}
+use lib.ListN.{length, take, drop, getD, set}
 use lib.Seq.{slice, slice-empty, take-suc, length-take-le, drop-append-le, getD-set-same, getD-set-other}
 use Rattle.model.specs.Bytes.{Bytes, has}
 use Rattle.model.specs.Tree.{distinct}
@@ -16,7 +16,8 @@ use Rattle.model.specs.Editor.{Held, at}
 use Rattle.model.specs.Order.{All}
 use Rattle.model.proofs.SoundTrees.{total}
 use Rattle.model.proofs.Basics.{and-left, and-right, not-true, no-way}
-use Rattle.model.proofs.ByteLaws.{has-here, has-past}
+use Rattle.model.proofs.ByteLaws.{has-past}
+use Rattle.slots.proofs.Marked.{length-marked, marked-other}
 use Rattle.runs.specs.Digits.{digits}
 use Rattle.runs.proofs.DigitLaws.{length-digits}
 use Rattle.slots.specs.View.{ifUsed, heldIn, slotsOf, marked, allDifferent}
@@ -24,17 +25,6 @@ use Rattle.slots.proofs.Slots.{front, back, slot, id, split-used, ifUsed-append
 use Rattle.slots.proofs.Gather.{total-more, distinct-remove}
 use Rattle.store.specs.Written.{markable, Marks}
 use Rattle.store.specs.declared.written.Marked.{Marked}
-
-pub length-marked : (ks ds : List ℕ) → length (marked ks ds) ≡ length ds
-unfolding marked
-length-marked [] ds = refl
-length-marked (k ∷ ks) ds = length-set (marked ks ds) k 1 ∙ length-marked ks ds
-
--- the digit of a place that is not among those set
-pub marked-other : (j : ℕ) (ks ds : List ℕ) → has j ks ≡ false → getD (marked ks ds) j 0 ≡ getD ds j 0
-unfolding marked
-marked-other j [] ds h = refl
-marked-other j (k ∷ ks) ds h = getD-set-other (marked ks ds) k j 1 0 (λ e. no-way (sym (has-here j k ks (sym e)) ∙ h)) ∙ marked-other j ks ds (sym (has-past j k ks (λ e. no-way (sym (has-here j k ks e) ∙ h))) ∙ h)
 
 -- one slot set
 slots-mark : (k w : ℕ) (ds : List ℕ) (ps bs : List Bytes) → k < length ds → length ps ≡ length ds → length bs ≡ length ds →

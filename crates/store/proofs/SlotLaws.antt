@@ -12,12 +12,11 @@ use Rattle.model.specs.Editor.{Held, at}
 use Rattle.model.specs.Order.{All}
 use Rattle.model.specs.Valid.{allGood}
 use Rattle.model.proofs.Basics.{and-left, and-right, or-left, or-right, not-true}
-use Rattle.model.proofs.ByteLaws.{same-eq}
+use Rattle.model.proofs.ByteLaws.{same-eq, same-not}
 use Rattle.model.proofs.SoundTrees.{total as sum}
 use Rattle.names.specs.Compact.{unpack, unpackIn}
 use Rattle.runs.specs.Runs.{total}
 use Rattle.slots.specs.View.{ifUsed, heldIn, slotsOf}
-use Rattle.slots.proofs.Gather.{differ}
 use Rattle.store.specs.Laid.{goodPath}
 
 -- ---- every used slot
@@ -84,7 +83,7 @@ among-none p (h ∷ hs) (n, a) = go (same p (h .path)) refl (among-none p hs a)
 pub none-among : (p : Bytes) (hs : List Held) → among p (map at hs) ≡ false → All (λ h. h .path ≢ p) hs
 none-among p [] e = tt
 none-among p (h ∷ hs) e =
-    (λ q. differ p (h .path) (or-left (same p (h .path)) (among p (map at hs)) e) (sym q), none-among p hs (or-right (same p (h .path)) (among p (map at hs)) e))
+    (λ q. same-not p (h .path) (or-left (same p (h .path)) (among p (map at hs)) e) (sym q), none-among p hs (or-right (same p (h .path)) (among p (map at hs)) e))
 
 -- the paths of the used slots are different
 abbrev pub Apart : List ℕ → List Bytes → Type 0

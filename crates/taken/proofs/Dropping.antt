@@ -14,12 +14,13 @@ use Rattle.model.specs.Editor.{Held}
 use Rattle.model.specs.Write.{bottom}
 use Rattle.model.proofs.Basics.{no-way, and-left, and-right, not-true}
 use Rattle.model.proofs.ByteLaws.{has-here}
+use Rattle.slots.proofs.Marked.{marked-other}
 use Rattle.runs.specs.Digits.{digits}
 use Rattle.runs.proofs.DigitLaws.{length-digits, digit-same, digit-zero}
 use Rattle.slots.specs.View.{Laid, Used, SameWrite, marked}
 use Rattle.slots.specs.declared.Editor.{Editor}
 use Rattle.taken.specs.Taken.{Marks, Between, SameTree, either, joined, markIf}
-use Rattle.taken.proofs.Marking.{marked-here, marked-other, not-marked, all-has}
+use Rattle.taken.proofs.Marking.{marked-here, not-marked, all-has}
 use Rattle.taken.proofs.Steps.{used-same, open-between}
 
 -- ---- two maps joined
@@ -142,7 +143,7 @@ module _ (r : Editor) (ks : List ℕ) (m : Marks r ks) (k : ℕ) (i : has k ks �
           other j h n false e =
               let z = digit-zero 64 (r .hidden) j h (eqb-false (getD (digits 64 (r .hidden)) j 0) 1 e) in
               let y : getD (marked ks (digits 64 (r .free))) j 0 ≡ 0 = ap (λ (x : List ℕ). getD x j 0) (sym (m .hidden)) ∙ z in
-              let f = marked-other ks (digits 64 (r .free)) j (not-marked ks (digits 64 (r .free)) j (omega (arith, length-digits 64 (r .free))) y) in
+              let f = marked-other j ks (digits 64 (r .free)) (not-marked ks (digits 64 (r .free)) j (omega (arith, length-digits 64 (r .free))) y) in
               z ∙ sym (ap (λ (x : ℕ). either x (getD (digits 64 (r .free)) j 0)) z ∙ sym f ∙ y)
 
           at-place : (j : ℕ) → j < 64 → (t : Bool) → eqb j k ≡ t → getD (digits 64 (r .hidden)) j 0 ≡ getD (set (digits 64 (q .free)) k 1) j 0

@@ -11,6 +11,7 @@ use Rattle.model.specs.Map.{put}
 use Rattle.model.specs.Editor.{Held, at, Cache}
 use Rattle.model.specs.Order.{All}
 use Rattle.model.proofs.Basics.{and-left, and-right, not-true, all-map}
+use Rattle.slots.proofs.Marked.{length-marked}
 use Rattle.runs.specs.Digits.{digits}
 use Rattle.runs.specs.Runs.{cut}
 use Rattle.runs.proofs.DigitLaws.{length-digits, digit-same}
@@ -18,7 +19,7 @@ use Rattle.runs.proofs.Laws.{length-cut}
 use Rattle.slots.specs.View.{slotsOf, gather, heldIn, Laid, Used, SameWrite, marked, allDifferent, heldAt, cachedOf, asideOf, stackedOf, Ordered, Closed}
 use Rattle.slots.specs.declared.Editor.{Editor}
 use Rattle.taken.specs.Taken.{goingOf, Marks, Between, SameTree}
-use Rattle.taken.proofs.Marking.{length-marked, marked-set, all-other, all-left, all-right, all-both, map-same}
+use Rattle.taken.proofs.Marking.{marked-set, all-other, all-left, all-right, all-both, map-same}
 use Rattle.taken.proofs.Shown.{show-view, shown-same}
 
 -- ---- the slots of two stores

@@ -11,6 +11,7 @@ use lib.Seq.{getD-set-same, getD-set-other, take-at, drop-at, take-add, length-t
 use Rattle.model.specs.Bytes.{Bytes}
 use Rattle.model.specs.Tree.{distinct, nameBytes, wellFormed}
 use Rattle.model.specs.Editor.{Held, at, entryCount, nameCount}
+use Rattle.slots.proofs.Emptied.{all-free, none-used}
 use Rattle.runs.specs.Digits.{digits}
 use Rattle.runs.specs.Moves.{over}
 use Rattle.runs.specs.Runs.{cut, total, Sound}
@@ -71,26 +72,15 @@ module _ (lens bytes : List ℕ) (used k : ℕ) (s : Sound lens bytes used) (l :
 
 -- ---- one slot of all is shown
 
-all-ones : digits 64 0xffff_ffff_ffff_ffff ≡ replicate 64 1
-unfolding digits
-all-ones = refl
-
 pub ones-at : (k : ℕ) → k < 64 → getD (digits 64 0xffff_ffff_ffff_ffff) k 0 ≡ 1
-ones-at k h = ap (λ (x : List ℕ). getD x k 0) all-ones ∙ getD-replicate 64 k 1 0 h
-
-none-shown : (w n : ℕ) (ps bs : List Bytes) → slotsOf w (replicate n 1) ps bs ≡ []
-unfolding slotsOf
-none-shown w zero ps bs = refl
-none-shown w (suc n) [] bs = refl
-none-shown w (suc n) (p ∷ ps) [] = refl
-none-shown w (suc n) (p ∷ ps) (b ∷ bs) = none-shown w n ps bs
+ones-at k h = ap (λ (x : List ℕ). getD x k 0) all-free ∙ getD-replicate 64 k 1 0 h
 
 pub one-shown : (w n k : ℕ) (ps bs : List Bytes) → k < n → length ps ≡ n → length bs ≡ n → slotsOf w (set (replicate n 1) k 0) ps bs ≡ heldIn w (getD ps k []) (getD bs k []) ∷ []
 unfolding slotsOf
 one-shown w zero k ps bs h l r = absurd (omega arith)
 one-shown w (suc n) k [] bs h l r = absurd (omega arith)
 one-shown w (suc n) k (p ∷ ps) [] h l r = absurd (omega arith)
-one-shown w (suc n) zero (p ∷ ps) (b ∷ bs) h l r = ap (λ (m : List Held). heldIn w p b ∷ m) (none-shown w n ps bs)
+one-shown w (suc n) zero (p ∷ ps) (b ∷ bs) h l r = ap (λ (m : List Held). heldIn w p b ∷ m) (none-used w n ps bs)
 one-shown w (suc n) (suc k) (p ∷ ps) (b ∷ bs) h l r = one-shown w n k ps bs (omega arith) (omega arith) (omega arith)
 
 -- ---- the layout's rules
@@ -111,7 +101,7 @@ module _ (w : ℕ) (r : Editor) (plens paths tlens trees : List ℕ) (L : Laid w
   other j x rs h n e = ap (λ (y : List Bytes). getD y j []) e ∙ getD-set-other (replicate 64 []) k j x [] n ∙ getD-replicate 64 j [] [] h
 
   free-is : digits 64 (q .free) ≡ set (replicate 64 1) k 0
-  free-is = ef ∙ ap (λ (x : List ℕ). set x k 0) all-ones
+  free-is = ef ∙ ap (λ (x : List ℕ). set x k 0) all-free
 
   pub sole-digit : getD (digits 64 (q .free)) k 0 ≡ 0
   sole-digit = ap (λ (x : List ℕ). getD x k 0) free-is ∙ getD-set-same (replicate 64 1) k 0 0 (omega (arith, low, length-replicate {A = ℕ} 64 1))

@@ -6,12 +6,13 @@ use Prim.Native.Nat.{ℕ, zero, suc, _+_, _/_, _≤_, _<_, compare, Ordering, Or
 use native.Mathlib.Omega.{arith}
 use lib.Dec.{eqb}
 use borrow.Author.Tests.{eqb-true, eqb-false}
-use lib.ListN.{length, getD, set, length-set}
+use lib.ListN.{length, getD, set}
 use lib.Seq.{getD-set-same, getD-set-other, set-comm}
 use Rattle.model.specs.Bytes.{by, has}
 use Rattle.model.specs.Order.{All}
 use Rattle.model.proofs.Basics.{and-left, and-right, not-true, no-way}
 use Rattle.model.proofs.ByteLaws.{has-here, has-past}
+use Rattle.slots.proofs.Marked.{length-marked, marked-other}
 use Rattle.runs.specs.Digits.{digits}
 use Rattle.runs.specs.Runs.{total}
 use Rattle.slots.specs.View.{marked, allDifferent}
@@ -77,21 +78,6 @@ all-mid P (y ∷ a) k b h = (h .1 .0, all-mid P a k b (h .0, h .1 .1))
 abbrev pub Low : List ℕ → ℕ → Type 0
 Low ds k = k < length ds
 
-pub length-marked : (ks ds : List ℕ) → length (marked ks ds) ≡ length ds
-unfolding marked
-length-marked [] ds = refl
-length-marked (k ∷ ks) ds = length-set (marked ks ds) k 1 ∙ length-marked ks ds
-
--- a place that is none of them is as it was
-pub marked-other : (ks ds : List ℕ) (k : ℕ) → has k ks ≡ false → getD (marked ks ds) k 0 ≡ getD ds k 0
-unfolding marked
-marked-other [] ds k n = refl
-marked-other (j ∷ ks) ds k n = go (eqb j k) refl (marked-other ks ds k)
-  where
-    go : (t : Bool) → eqb j k ≡ t → (has k ks ≡ false → getD (marked ks ds) k 0 ≡ getD ds k 0) → getD (set (marked ks ds) j 1) k 0 ≡ getD ds k 0
-    go true e i = no-way (sym (has-here k j ks (eqb-true j k e)) ∙ n)
-    go false e i = getD-set-other (marked ks ds) j k 1 0 (λ q. eqb-false j k e (sym q)) ∙ i (sym (has-past k j ks (eqb-false j k e)) ∙ n)
-
 -- each of them is set
 pub marked-here : (ks ds : List ℕ) (k : ℕ) → k < length ds → has k ks ≡ true → getD (marked ks ds) k 0 ≡ 1
 unfolding marked
@@ -127,7 +113,7 @@ total-marked [] ds u a = omega arith
 total-marked (k ∷ ks) ds u a =
     let n : has k ks ≡ false = not-true (has k ks) (and-left (not (has k ks)) (allDifferent ks) a) in
     let i = total-marked ks ds (u .1) (and-right (not (has k ks)) (allDifferent ks) a) in
-    omega (arith, i, total-set (marked ks ds) k (omega (arith, length-marked ks ds, u .0 .0)) (marked-other ks ds k n ∙ u .0 .1))
+    omega (arith, i, total-set (marked ks ds) k (omega (arith, length-marked ks ds, u .0 .0)) (marked-other k ks ds n ∙ u .0 .1))
 
 -- the digits' sum is at most their number; less where one is not set
 pub total-digits : (w n : ℕ) → total (digits w n) ≤ w

@@ -10,11 +10,12 @@ use Rattle.model.specs.Map.{put, del}
 use Rattle.model.specs.Tree.{distinct}
 use Rattle.model.specs.Editor.{Held, at}
 use Rattle.model.specs.Order.{All}
+use Rattle.slots.proofs.Marked.{length-marked}
 use Rattle.runs.specs.Runs.{withRun}
 use Rattle.slots.specs.View.{heldIn, slotsOf, gather, marked, ifUsed}
 use Rattle.slots.proofs.Gather.{gather-mid, distinct-before, distinct-remove}
 use Rattle.slots.proofs.Slots.{front, back, slot, id, split-used, slots-split, slots-set, view-free}
-use Rattle.taken.proofs.Marking.{Low, length-marked}
+use Rattle.taken.proofs.Marking.{Low}
 
 with-id : (k : ℕ) (rs : List Bytes) → withRun k id rs ≡ rs
 unfolding withRun

@@ -16,6 +16,7 @@ use Rattle.model.specs.Editor.{Editor as Model}
 use Rattle.model.specs.Write.{Going}
 use Rattle.model.specs.Write.{writeOf as modelWrite}
 use Rattle.model.proofs.Basics.{all-map}
+use Rattle.slots.proofs.Marked.{marked-other}
 use Rattle.runs.specs.Digits.{digits}
 use Rattle.runs.specs.Runs.{cut, Sound, total}
 use Rattle.runs.proofs.DigitLaws.{length-digits}
@@ -23,7 +24,7 @@ use Rattle.runs.proofs.Laws.{length-cut}
 use Rattle.slots.specs.View.{slotsOf, gather, Laid, Used, marked, heldAt, cachedOf, asideOf, stackedOf, writeOf, Opened, Ordered}
 use Rattle.slots.specs.declared.Editor.{Editor}
 use Rattle.taken.specs.Taken.{goingOf, stackedOn, keptOn, takenOff, writingOf, Marks, allTaken, Between, Cached, SameSlots}
-use Rattle.taken.proofs.Marking.{marked-mid, different-mid, all-front, all-mid, Low, marked-other, not-marked, Unset, total-marked, total-below}
+use Rattle.taken.proofs.Marking.{marked-mid, different-mid, all-front, all-mid, Low, not-marked, Unset, total-marked, total-below}
 use Rattle.taken.proofs.Shown.{hide-view, marked-apart}
 
 -- ---- the record's other fields
@@ -89,7 +90,7 @@ pub cached-used : (r : Editor) (ks : List ℕ) → Marks r ks → (k : ℕ) → 
 cached-used r ks m k c =
     let l = length-digits 64 (r .free) in
     let n = not-marked ks (digits 64 (r .free)) k (omega (arith, l, c .low)) (ap (λ (x : List ℕ). getD x k 0) (sym (m .hidden)) ∙ c .shown) in
-    (record { low = c .low; used = sym (marked-other ks (digits 64 (r .free)) k n) ∙ ap (λ (x : List ℕ). getD x k 0) (sym (m .hidden)) ∙ c .shown }, n)
+    (record { low = c .low; used = sym (marked-other k ks (digits 64 (r .free)) n) ∙ ap (λ (x : List ℕ). getD x k 0) (sym (m .hidden)) ∙ c .shown }, n)
 
 -- one more is marked
 pub marks-more : (r q : Editor) (ks : List ℕ) (k : ℕ) → Marks r ks → Used r k → has k ks ≡ false → q .free ≡ r .free → digits 64 (q .hidden) ≡ set (digits 64 (r .hidden)) k 1 → Marks q (k ∷ ks)

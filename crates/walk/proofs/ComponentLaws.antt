@@ -1,5 +1,5 @@
 -- Laws of the component at hand, the first of what is left of a path: the walks over components share them. Assumes nothing.
-use Prim.Native.Nat.{ℕ, suc, _+_, _<_, compare, Ordering, Ordering·lt, Ordering·eq, Ordering·gt}
+use Prim.Native.Nat.{ℕ, suc, _+_, _<_}
 use mathlib.Core.Path.{_≡_, refl, sym, ap, _∙_, subst}
 use mathlib.Core.List.{List, [], _∷_, _++_}
 use mathlib.Core.Bool.{Bool, true, false, cond}
@@ -10,17 +10,17 @@ use lib.Dec.{eqb}
 use lib.ListN.{length, take, drop, take-append-drop}
 use lib.Seq.{drop-cons, take-length}
 use borrow.Author.Tests.{eqb-true, eqb-false}
-use Rattle.model.specs.Bytes.{Bytes, isNil, by, has}
+use Rattle.model.specs.Bytes.{Bytes, isNil}
 use Rattle.model.specs.Map.{find}
 use Rattle.model.specs.Tree.{Entry, Tree, asKind, key, goodName, orElse, wellFormed}
 use Rattle.model.specs.Order.{All}
 use Rattle.model.specs.Paths.{pieces, components, base}
 use Rattle.model.proofs.ChangeLaws.{Plain}
-use Rattle.model.proofs.DirBaseLaws.{base-self}
+use Rattle.model.proofs.DirBaseLaws.{base-self, has-slash}
 use Rattle.model.proofs.OrderTheorem.{pieces-plain}
 use Rattle.model.proofs.RawLaws.{well-entries}
 use Rattle.model.proofs.SoundTrees.{name-of, sound-well}
-use Rattle.model.proofs.WriteKeepsTrees.{good-find}
+use Rattle.model.proofs.WriteKeepsTrees.{good-find, name-some}
 use Rattle.names.specs.Places.{firstPiece}
 use Rattle.edits.proofs.FrontLaws.{pieces-some, piece-short, piece-slash, pieces-next, pieces-end}
 
@@ -38,18 +38,9 @@ pub rest-nil : (b : Bool) (p : Bytes) (k : ℕ) → isNil (restOf b p k) ≡ b
 rest-nil true p k = refl
 rest-nil false p k = pieces-some (drop (k + 1) p)
 
-slash-in : (q n : Bytes) → has 47 (q ++ (47 ∷ n)) ≡ true
-slash-in [] n = refl
-slash-in (x ∷ xs) n = go (compare 47 x) (slash-in xs n)
-  where
-    go : (o : Ordering) → has 47 (xs ++ (47 ∷ n)) ≡ true → by o (has 47 (xs ++ (47 ∷ n))) true (has 47 (xs ++ (47 ∷ n))) ≡ true
-    go Ordering·lt h = h
-    go Ordering·eq h = refl
-    go Ordering·gt h = h
-
 base-past : (q n : Bytes) → base (q ++ (47 ∷ n)) ≡ base n
 base-past [] n = refl
-base-past (b ∷ bs) n = ap (λ (z : Bool). cond z (base (bs ++ (47 ∷ n))) ((b ∷ bs) ++ (47 ∷ n))) (slash-in (b ∷ bs) n) ∙ base-past bs n
+base-past (b ∷ bs) n = ap (λ (z : Bool). cond z (base (bs ++ (47 ∷ n))) ((b ∷ bs) ++ (47 ∷ n))) (has-slash (b ∷ bs) n) ∙ base-past bs n
 
 module _ (p : Bytes) (k : ℕ) (e : k ≡ length (firstPiece p)) where
   pub last-long : {b : Bool} → b ≡ eqb k (length p) → b ≡ true → k ≡ length p
@@ -84,15 +75,10 @@ module _ (p : Bytes) (k : ℕ) (e : k ≡ length (firstPiece p)) where
       sym (ap base split ∙ base-past (take k p) (drop (k + 1) p))
 
 -- an entry that is found in a well-formed tree has the name, which has bytes
-good-some : (n : Bytes) → goodName n ≡ true → isNil n ≡ false
-unfolding goodName
-good-some [] g = sym g
-good-some (b ∷ bs) g = refl
-
 pub found-named : (t : Tree) (n : Bytes) (e : Entry) (b : Bool) → wellFormed 20 t ≡ true → Plain n → find key (asKind b n) t ≡ some e → (e .name ≡ n) × (isNil n ≡ false)
 found-named t n e b w p f =
     let q = name-of t (sound-well 20 t w) b n e p f in
-    (q, good-some n (ap goodName (sym q) ∙ good-find 20 t (well-entries 20 t w) (asKind b n) e f))
+    (q, name-some n (ap goodName (sym q) ∙ good-find 20 t (well-entries 20 t w) (asKind b n) e f))
 
 pub either-named : (t : Tree) (n : Bytes) (e : Entry) (b c : Bool) → wellFormed 20 t ≡ true → Plain n → orElse (find key (asKind b n) t) (find key (asKind c n) t) ≡ some e → (e .name ≡ n) × (isNil n ≡ false)
 either-named t n e b c w p = go (find key (asKind b n) t) refl

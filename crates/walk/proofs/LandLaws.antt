@@ -17,9 +17,10 @@ use Rattle.model.specs.Walk.{Edit, isLeafRemoval, load, enter, pickEntered, int
 use Rattle.model.specs.Walk as walk
 use Rattle.model.specs.Measure.{Counts, plusTree, landing, landNew, landRaw, landRead, lands, halts, there}
 use Rattle.model.specs.Measure as measure
-use Rattle.model.proofs.Basics.{none-some, some-inj}
+use Rattle.model.proofs.Basics.{none-some}
+use Rattle.names.proofs.PackLaws.{size-inv}
 use Rattle.names.specs.Answers.{checkedAs}
-use Rattle.names.specs.Check.{TreeSize, sizeOf}
+use Rattle.names.specs.Check.{sizeOf}
 use Rattle.names.specs.declared.tree.Checked.{Checked}
 use Rattle.names.specs.declared.tree.Checked.the-variants.{WellFormed, Broken}
 use Rattle.runs.specs.Digits.{digits}
@@ -107,12 +108,6 @@ size-none : (o : Option Tree) → none ≡ sizeOf o → o ≡ none
 size-none none e = refl
 size-none (some t) e = none-some (record { entries = length t; bytes = nameBytes t }) e
 
-size-some : (o : Option Tree) (z : TreeSize) → some z ≡ sizeOf o → (t : Tree) × (o ≡ some t) × (z .entries ≡ length t) × (z .bytes ≡ nameBytes t)
-size-some none z e = none-some z (sym e)
-size-some (some t) z e =
-    let q = some-inj z (record { entries = length t; bytes = nameBytes t }) e in
-    (t, refl, ap (λ (y : TreeSize). y .entries) q, ap (λ (y : TreeSize). y .bytes) q)
-
 module _ (T : Table) (i raws : Bytes) {x : Object} (f : FoundIn (lookedUp 20 T i) raws x) where
   wanted : lookedUp (sha1 .width) T i ≡ bytesAt raws x
   wanted = ap (λ (w : ℕ). lookedUp w T i) wide ∙ f .is
@@ -139,7 +134,7 @@ module _ (T : Table) (i raws : Bytes) {x : Object} (f : FoundIn (lookedUp 20 T i
 
       pub plan-load : {entries names : ℕ} → c ≡ WellFormed entries names → PlanIs raws (readPlan sha1 (lookedUp (sha1 .width) T i)) (Load (record { from = from; to = to; entries = entries; names = names }))
       plan-load {entries} {names} b =
-          let (t, r, en, nn) = size-some (readTree 20 raw) (record { entries = entries; bytes = names }) (sym (ap checkedAs b) ∙ checked) in
+          let (t, r, en, nn) = size-inv (readTree 20 raw) (record { entries = entries; bytes = names }) (sym (ap checkedAs b) ∙ checked) in
           (t, record { order = in-raws .0; inside = in-raws .1; reads = r; entries = en; names = nn }, plan-is ∙ ap treePlan r)
 
 -- an id that is given

@@ -16,6 +16,7 @@ use Rattle.model.specs.Editor as editor
 use Rattle.model.specs.Lookup as model
 use Rattle.model.specs.Lookup.{lookOn, look}
 use Rattle.model.proofs.ChangeLaws.{Plain}
+use Rattle.model.proofs.Basics.{and-false}
 use Rattle.names.specs.Answers.{asMode, entry}
 use Rattle.names.specs.Places.{firstPiece}
 use Rattle.names.specs.Compact.{unpack}
@@ -63,10 +64,6 @@ entry-is : (kind : EntryKind) (m : Bytes) (id : Id) (x : Entry) → m ≡ x .nam
 unfolding made
 entry-is kind m id x en em ei = ap₂ (λ (a : Mode) (l : Bytes). made a m l) (sym em) (sym ei) ∙ ap (λ (l : Bytes). made (x .mode) l (x .id)) en
 
-off-right : (b : Bool) → (b && false) ≡ false
-off-right true = refl
-off-right false = refl
-
 module _ (ds : List ℕ) (ps : List Bytes) (t : Tree) (q n : Bytes) where
   pub look-none : (b : Bool) → seenAs S.Nothing ≡ partsOf (entryOfLookup n t) → NextIs ds ps t q n b (Over Missing)
   look-none b s bs l m f rest =
@@ -93,7 +90,7 @@ module _ (ds : List ℕ) (ps : List Bytes) (t : Tree) (q n : Bytes) where
 
       pub look-uncached : ((v : ℕ) (runs : List Bytes) → length runs ≡ 64 → SlotIs v ds ps runs q F.Nothing) → NextIs ds ps t q n b (Over Missing)
       look-uncached g bs l m f rest =
-          sym (earlier bs rest ∙ ap (λ (o : Option Held). model.pickLooked (isTree (asMode kind) && isSome o) rest model.missing) (g 20 bs l .0) ∙ ap (λ (z : Bool). model.pickLooked z rest model.missing) (off-right (isTree (asMode kind))))
+          sym (earlier bs rest ∙ ap (λ (o : Option Held). model.pickLooked (isTree (asMode kind) && isSome o) rest model.missing) (g 20 bs l .0) ∙ ap (λ (z : Bool). model.pickLooked z rest model.missing) (and-false (isTree (asMode kind))))
 
       pub look-on : isTree (asMode kind) ≡ true → length ds ≡ 64 → length ps ≡ 64 → (k : ℕ) → ((v : ℕ) (runs : List Bytes) → length runs ≡ 64 → SlotIs v ds ps runs q (F.At k)) → NextIs ds ps t q n b (In k)
       look-on f ld lp k g =
