@@ -119,3 +119,7 @@ null-id = refl
 pub empty-id : idBytes (record { a = 0x4b825dc6; b = 0x42cb6eb9; c = 0xa060e54b; d = 0xf8d69288; e = 0xfbee4904 }) ≡ sha1 .emptyId
 unfolding idBytes wordBytes sha1
 empty-id = refl
+
+pub sha1-wide : sha1 .width ≡ 20
+unfolding sha1
+sha1-wide = refl

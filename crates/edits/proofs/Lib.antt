@@ -2,4 +2,5 @@ pub mod EditLaws
 pub mod FrontLaws
 pub mod IdLaws
 pub mod LookLaws
+pub mod PassLaws
 pub mod TableLaws

@@ -1,0 +1,2 @@
+-- Definitions that the contracts of `taken` cite.
+pub mod Taken

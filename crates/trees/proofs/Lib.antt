@@ -1,0 +1,4 @@
+-- The laws that the proofs of several functions share.
+pub mod Gaps
+pub mod Loads
+pub mod Reading

@@ -1,0 +1,2 @@
+-- Definitions that the contracts of `trees` cite.
+pub mod Trees
