@@ -25,7 +25,7 @@ pub record Even (ds : List ℕ) (ps bs : List Bytes) : Type 0 where
   pub left : length ps ≡ length ds
   pub right : length bs ≡ length ds
 
-ifUsed-append : (d : ℕ) (h : Held) (a b : List Held) → ifUsed d h (a ++ b) ≡ ifUsed d h a ++ b
+pub ifUsed-append : (d : ℕ) (h : Held) (a b : List Held) → ifUsed d h (a ++ b) ≡ ifUsed d h a ++ b
 ifUsed-append zero h a b = refl
 ifUsed-append (suc d) h a b = refl
 

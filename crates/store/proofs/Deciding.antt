@@ -48,7 +48,7 @@ module _ {P : ℕ → Type 0} {k : ℕ} (s : Sofar P k) where
       go j l true e = subst P (sym (eqb-true j k e)) p
       go j l false e = let n = eqb-false j k e in s .each j (omega (arith, n))
 
-  pub all-so : 64 ≤ k → (j : ℕ) → j < 64 → P j
+  pub all-so : {n : ℕ} → n ≤ k → (j : ℕ) → j < n → P j
   all-so h j l = s .each j (omega arith)
 
 -- and the run k starts at a

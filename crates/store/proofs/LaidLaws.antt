@@ -71,7 +71,7 @@ module _ (w : ℕ) (r : Editor) (plens paths tlens trees : List ℕ) where
   module _ (pl : length plens ≡ 64) (tl : length tlens ≡ 64) (pr : length paths ≡ 8192) (tr : length trees ≡ treeRoom w) (es : r .entries ≤ 1024) (ns : r .names ≤ 16384)
       (A : Lengths r plens paths tlens trees) (T : Trees w bs (r .entries) (r .names)) (P : Paths ds ps) where
     apart : distinct (map at hs) ≡ true
-    apart = apart-distinct w ds ps bs (even plens paths pl) (even tlens trees tl) (λ j k m h u v. P .apart j k m (omega (arith, d64)) u v)
+    apart = apart-distinct w ds ps bs (even plens paths pl) (even tlens trees tl) (λ j k m h u v. P .apart k (omega (arith, d64)) v j m u)
 
     bare : (k : ℕ) → k < 64 → (getD ds k 0 ≡ 0 → ⊥) → getD bs k [] ≡ []
     bare k h n = no-run tlens trees (r .trees) k (A .trees-sound) (omega (arith, tl)) (A .blank k h n .1)
@@ -129,7 +129,7 @@ module _ (w : ℕ) (r : Editor) (plens paths tlens trees : List ℕ) where
     its-paths =
         record {
           good = λ k h. go k h (getD ds k 0) refl;
-          apart = λ j k m h u v. distinct-apart w ds ps bs (even plens paths (L .laid .plens-64)) (even tlens trees (L .laid .tlens-64)) (L .laid .apart) j k m (omega (arith, d64)) u v;
+          apart = λ k h v j m u. distinct-apart w ds ps bs (even plens paths (L .laid .plens-64)) (even tlens trees (L .laid .tlens-64)) (L .laid .apart) j k m (omega (arith, d64)) u v;
         }
       where
         go : (k : ℕ) → k < 64 → (d : ℕ) → getD ds k 0 ≡ d → goodPath (getD ps k []) ≡ true

@@ -1,6 +1,14 @@
 -- The laws that the proofs of several functions share.
+pub mod ChainLaws
 pub mod CountLaws
+pub mod DecideLaws
 pub mod Deciding
-pub mod FirstLaws
 pub mod LaidLaws
+pub mod MarkLaws
+pub mod ParentLaws
 pub mod SlotLaws
+pub mod StartLaws
+pub mod StoredLaws
+pub mod TakenLaws
+pub mod Whole
+pub mod WrittenLaws

@@ -35,10 +35,18 @@ pub record Lengths (r : Editor) (plens paths tlens trees : List ℕ) : Type 0 wh
 abbrev pub goodPath : Bytes → Bool
 goodPath p = isNil p || validPath p
 
+-- no used slot before k is at the path p
+abbrev pub New : List ℕ → List Bytes → ℕ → Bytes → Type 0
+New ds ps k p = (j : ℕ) → j < k → getD ds j 0 ≡ 0 → getD ps j [] ≡ p → ⊥
+
+-- the slot k, if used, is the first at its path
+abbrev pub First : List ℕ → List Bytes → ℕ → Type 0
+First ds ps k = getD ds k 0 ≡ 0 → New ds ps k (getD ps k [])
+
 -- the paths are good, and those of the used slots different
 pub record Paths (ds : List ℕ) (ps : List Bytes) : Type 0 where
   pub good : (k : ℕ) → k < 64 → goodPath (getD ps k []) ≡ true
-  pub apart : (j k : ℕ) → j < k → k < 64 → getD ds j 0 ≡ 0 → getD ds k 0 ≡ 0 → getD ps j [] ≡ getD ps k [] → ⊥
+  pub apart : (k : ℕ) → k < 64 → First ds ps k
 
 -- a run is the compact form of a well-formed tree
 pub record Whole (w : ℕ) (b : Bytes) : Type 0 where

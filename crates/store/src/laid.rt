@@ -8,7 +8,7 @@ ghost use Rattle.runs.specs.Digits.{digits};
 ghost use Rattle.runs.specs.Runs.{cut, Sound};
 ghost use Rattle.slots.specs.View.{treeRoom};
 ghost use Rattle.store.specs.Decides.{Decides};
-ghost use Rattle.store.specs.Laid.{Lays, Blank, Lengths, goodPath, Paths, Trees};
+ghost use Rattle.store.specs.Laid.{Lays, Blank, Lengths, goodPath, New, First, Paths, Trees};
 use names::tree::Checked;
 use slots::Editor;
 
@@ -96,6 +96,64 @@ fn good_paths(plens: &[u64], paths: &[u8], used: usize) -> bool
     true
 }
 
+// Whether the slot j is used, and its path, the run, is the path.
+fn is_at(map: u64, j: usize, run: &[u8], path: &[u8]) -> bool
+    requires { ⌜ j < 64 ⌝ }
+    ensures { λ r. ⌜ Decides ((getD (digits 64 map) j 0 ≡ 0) × (now (run .entry) ≡ now (path .entry))) r ⌝ }
+{
+    if !names::order::same_bytes(run, path) {
+        return false;
+    }
+    !runs::free::is_free(map, j)
+}
+
+// Whether no used slot before the slot k is at the path.
+fn is_new(map: u64, plens: &[u64], paths: &[u8], used: usize, k: usize, path: &[u8]) -> bool
+    requires { ⌜ Sound (now plens) (now paths) used × (length (now plens) ≡ 64) × (k < 64) ⌝ }
+    ensures { λ r. ⌜ Decides (New (digits 64 map) (cut (now (plens .entry)) (now (paths .entry))) k (now (path .entry))) r ⌝ }
+{
+    let mut a: usize = 0;
+    let mut j = 0;
+    while j < k {
+        let e = a + plens[j] as usize;
+        if is_at(map, j, &paths[a..e], path) {
+            return false;
+        }
+        a = e;
+        j += 1;
+    }
+    true
+}
+
+// Whether the slot k, if used, is the first at its path.
+fn is_first(map: u64, plens: &[u64], paths: &[u8], used: usize, k: usize, path: &[u8]) -> bool
+    requires { ⌜ Sound (now plens) (now paths) used × (length (now plens) ≡ 64) × (k < 64) × (now path ≡ getD (cut (now plens) (now paths)) k []) ⌝ }
+    ensures { λ r. ⌜ Decides (First (digits 64 map) (cut (now (plens .entry)) (now (paths .entry))) k) r ⌝ }
+{
+    if runs::free::is_free(map, k) {
+        return true;
+    }
+    is_new(map, plens, paths, used, k, path)
+}
+
+// Whether the paths of the used slots are different.
+fn apart(map: u64, plens: &[u64], paths: &[u8], used: usize) -> bool
+    requires { ⌜ Sound (now plens) (now paths) used × (length (now plens) ≡ 64) ⌝ }
+    ensures { λ r. ⌜ Decides ((k : ℕ) → k < 64 → First (digits 64 map) (cut (now (plens .entry)) (now (paths .entry))) k) r ⌝ }
+{
+    let mut a: usize = 0;
+    let mut k = 0;
+    while k < 64 {
+        let e = a + plens[k] as usize;
+        if !is_first(map, plens, paths, used, k, &paths[a..e]) {
+            return false;
+        }
+        a = e;
+        k += 1;
+    }
+    true
+}
+
 // Whether the paths are good, and those of the used slots different.
 fn paths_good(map: u64, plens: &[u64], paths: &[u8], used: usize) -> bool
     requires { ⌜ Sound (now plens) (now paths) used × (length (now plens) ≡ 64) ⌝ }
@@ -104,7 +162,7 @@ fn paths_good(map: u64, plens: &[u64], paths: &[u8], used: usize) -> bool
     if !good_paths(plens, paths, used) {
         return false;
     }
-    runs::runs::distinct(map, plens, paths, used)
+    apart(map, plens, paths, used)
 }
 
 // Whether each tree is well formed, and there are so many entries and name bytes in all.

@@ -1,2 +1,4 @@
 // Whether a record and lent slices hold an editor.
+pub mod holds;
 pub mod laid;
+pub mod written;
