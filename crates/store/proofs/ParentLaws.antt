@@ -18,12 +18,12 @@ use Rattle.model.specs.Order.{All}
 use Rattle.model.specs.Editor.{Held, at}
 use Rattle.model.specs.Valid.{isTreeEntry, hasParent}
 use Rattle.model.proofs.Basics.{none-some, some-none}
-use Rattle.model.proofs.ByteLaws.{has-here, has-past}
+use Rattle.model.proofs.ByteLaws.{has-here, has-past, same-eq, same-of, same-refl}
 use Rattle.model.proofs.ChangeLaws.{Plain, slash-last}
 use Rattle.model.proofs.MapLaws.{find-put-same}
 use Rattle.model.proofs.SearchLaws.{Right, halving-right}
 use Rattle.model.proofs.SoundTrees.{Sound, sound-well, find-key}
-use Rattle.model.proofs.ValidSums.{one, isAt, same-eq, same-of, same-self}
+use Rattle.model.proofs.ValidSums.{one, isAt}
 use Rattle.names.specs.Compact.{unpack, spotOf, Tells}
 use Rattle.names.specs.declared.compact.Place.{Place}
 use Rattle.runs.specs.Digits.{digits}
@@ -145,7 +145,7 @@ module _ (w : ℕ) (r : Editor) (plens paths tlens trees : List ℕ) (S : Lays w
           let d : allDifferent (j ∷ k ∷ []) ≡ true = rw (has-past j k [] (λ q. n (sym q))) in
           let once = used-sane w r plens paths tlens trees (S .laid) (S .good) (S .fits) .once x in
           let sum = total-marked (isAt x) w D ps bs (ps-even w r plens paths tlens trees (S .laid)) (bs-even w r plens paths tlens trees (S .laid)) (j ∷ k ∷ []) (clear j u, (clear k v, tt)) d in
-          absurd (omega (arith, once, sum, ap one (same-of (pathOf plens paths j) x e), ap one (same-self x)))
+          absurd (omega (arith, once, sum, ap one (same-of (pathOf plens paths j) x e), ap one (same-refl x)))
 
   -- a used slot's tree is found
   used-found : (k : ℕ) → Used r k → find at (pathOf plens paths k) (viewOf w r plens paths tlens trees) ≡ some (h k)
