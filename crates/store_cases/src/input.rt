@@ -2,33 +2,34 @@
 ghost use Prim.Native.Nat.{_+_, _≤_};
 ghost use mathlib.Core.Path.{_≡_};
 ghost use lib.ListN.{length};
-ghost use Rattle.io.specs.Counts.{Counts};
 use libc::STDIN_FILENO;
 use libc::STDOUT_FILENO;
 use slots::Editor;
 
-// Reads so many bytes to the front of a slice, and gives how many it has read: fewer where the input ends, none where there
-// is no room for them.
-fn read_bytes(out: &mut [u8], n: usize) -> usize
-    ensures { λ r. ⌜ Counts r (now (out .exit)) ⌝ }
-{
+// Reads so many bytes to the front of a slice. False where the input has fewer, or the slice no room for them.
+fn read_bytes(out: &mut [u8], n: usize) -> bool {
     if out.len() < n {
-        return 0;
+        return false;
     }
-    io::read_full(STDIN_FILENO, &mut out[..n])
+    io::read_full(STDIN_FILENO, &mut out[..n]) == n
 }
 
-// Reads so many words to the front of a slice, and gives how many it has read: fewer where the input ends, or where there is
-// no room for them.
-fn read_words(out: &mut [u64], n: usize) -> usize
-    ensures { λ r. ⌜ Counts r (now (out .exit)) ⌝ }
-{
+// Reads so many words to the front of a slice. False where the input has fewer, or there is no room for them.
+fn read_words(out: &mut [u64], n: usize) -> bool {
     let mut buf = [0u8; 1024];
-    if 128 < n {
-        return 0;
+    if out.len() < n || 128 < n {
+        return false;
     }
-    let got = read_bytes(&mut buf, 8 * n);
-    crate::words::unpack(&buf[..got], out)
+    let whole = read_bytes(&mut buf, 8 * n);
+    crate::words::unpack(&buf, out);
+    whole
+}
+
+// One of the five lengths at the head's front.
+fn length_at(head: &[u8], at: usize) -> usize
+    requires { ⌜ at + 4 ≤ length (now head) ⌝ }
+{
+    crate::words::half_at(head, at) as usize
 }
 
 // The record whose ten fields stand behind the five lengths.
@@ -57,9 +58,29 @@ fn print(good: bool) {
     }
 }
 
-// Reads the slices of a store whose head is read, and says whether it holds an editor. False, with nothing printed, where the
-// input ends within it or a slice has no room here.
-fn rest(
+// Whether a store holds an editor whose slices are at the front of these.
+fn is_good(
+    head: &[u8],
+    plens: &[u64],
+    paths: &[u8],
+    tlens: &[u64],
+    trees: &[u8],
+    order: &[u64],
+) -> bool
+    requires { ⌜ length (now head) ≡ 100 ⌝ }
+{
+    store::holds::holds(
+        record_of(head),
+        crate::words::front(plens, length_at(head, 0)),
+        names::part::front(paths, length_at(head, 4)),
+        crate::words::front(tlens, length_at(head, 8)),
+        names::part::front(trees, length_at(head, 12)),
+        crate::words::front(order, length_at(head, 16)),
+    )
+}
+
+// Reads the five slices of a store whose head is read. False where the input ends within them or one has no room.
+fn read_slices(
     head: &[u8],
     plens: &mut [u64],
     paths: &mut [u8],
@@ -69,30 +90,12 @@ fn rest(
 ) -> bool
     requires { ⌜ length (now head) ≡ 100 ⌝ }
 {
-    let n = crate::words::half_at(head, 0) as usize;
-    let a = read_words(plens, n);
-    let m = crate::words::half_at(head, 4) as usize;
-    let b = read_bytes(paths, m);
-    let k = crate::words::half_at(head, 8) as usize;
-    let c = read_words(tlens, k);
-    let t = crate::words::half_at(head, 12) as usize;
-    let d = read_bytes(trees, t);
-    let o = crate::words::half_at(head, 16) as usize;
-    let e = read_words(order, o);
-    if a != n || b != m || c != k || d != t || e != o {
-        return false;
-    }
-    print(
-        store::holds::holds(
-            record_of(head),
-            &plens[..a],
-            &paths[..b],
-            &tlens[..c],
-            &trees[..d],
-            &order[..e],
-        ),
-    );
-    true
+    let a = read_words(plens, length_at(head, 0));
+    let b = read_bytes(paths, length_at(head, 4));
+    let c = read_words(tlens, length_at(head, 8));
+    let d = read_bytes(trees, length_at(head, 12));
+    let e = read_words(order, length_at(head, 16));
+    a & b & c & d & e
 }
 
 // Reads a store and says whether it holds an editor. False, with nothing printed, where there is none.
@@ -107,7 +110,11 @@ fn turn(
     if io::read_full(STDIN_FILENO, &mut head) != 100 {
         return false;
     }
-    rest(&head, plens, paths, tlens, trees, order)
+    if read_slices(&head, plens, paths, tlens, trees, order) {
+        print(is_good(&head, plens, paths, tlens, trees, order));
+        return true;
+    }
+    false
 }
 
 // Says of each store of the standard input whether it holds an editor. Nothing says that the input ends, so the stores are

@@ -1,7 +1,6 @@
 // Words out of bytes, the lowest byte first.
 ghost use Prim.Native.Nat.{_+_, _*_, _≤_, _<_};
 ghost use lib.ListN.{length};
-ghost use Rattle.io.specs.Counts.{Counts};
 
 fn wide(b: u8) -> u64
     ensures { λ r. ⌜ r < 256 ⌝ }
@@ -38,15 +37,17 @@ fn least(a: usize, b: usize) -> usize
     if a < b { a } else { b }
 }
 
-// Writes the words that the bytes say, as far as there is room, and gives how many.
-pub fn unpack(s: &[u8], out: &mut [u64]) -> usize
-    ensures { λ r. ⌜ Counts r (now (out .exit)) ⌝ }
-{
+// Writes the words that the bytes say, as far as there are bytes and room.
+pub fn unpack(s: &[u8], out: &mut [u64]) {
     let n = least(s.len() / 8, out.len());
     let mut i = 0;
     while i < n {
         out[i] = word_at(s, 8 * i);
         i += 1;
     }
-    n
+}
+
+// The first k words of s, or all of it.
+pub fn front(s: &[u64], k: usize) -> &[u64] {
+    if k <= s.len() { &s[..k] } else { s }
 }
