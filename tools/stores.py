@@ -6,7 +6,8 @@
         [--answers FILE]                         and a line for each: 1 or 0, and what was done to it
     stores.py fixed                              write the fixed list, crates/store_cases/stdin and stdout
     stores.py compare --seed S --count N -- PROGRAM...
-                                                 N stores through PROGRAM, compared with the check; counts, status 1 on any difference
+                                                 N stores through PROGRAM, compared with the check; counts, status 1 on any difference.
+                                                 Without PROGRAM the counts alone
 
 A store in the form that is read and written here: the lengths of the five slices in elements, each a u32; the ten fields
 of the record, each a u64; the slices, words as u64. All little-endian, nothing between them, the next store follows at once.
@@ -262,8 +263,9 @@ def command_compare(args):
     good = sum(n for (_, a), n in counts.items() if a == "1")
     untouched = sum(n for (what, _), n in counts.items() if what.startswith("good"))
     total = sum(counts.values())
-    print("seed %d: %d stores, %d as made and %d damaged; %d hold an editor, %d do not; %d differences; %d s"
-          % (args.seed, total, untouched, total - untouched, good, total - good, differ, time.time() - began))
+    compared = "%d differences" % differ if args.program else "compared with nothing"
+    print("seed %d: %d stores, %d as made and %d damaged; %d hold an editor, %d do not; %s; %d s"
+          % (args.seed, total, untouched, total - untouched, good, total - good, compared, time.time() - began))
     if any(what.startswith("good") and a == "0" for what, a in counts):
         sys.exit("a store made good does not pass the check")
     if differ:
