@@ -12,7 +12,7 @@
 A store in the form that is read and written here: the lengths of the five slices in elements, each a u32; the ten fields
 of the record, each a u64; the slices, words as u64. All little-endian, nothing between them, the next store follows at once.
 
-The check was written from docs/STORE.md alone. It makes no use of the maker, and counts with numbers that do not wrap.
+The check was written from docs/STORE.md and not from the code. It makes no use of the maker, and counts with numbers that do not wrap.
 """
 import argparse
 import struct
