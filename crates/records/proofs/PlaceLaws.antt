@@ -14,7 +14,7 @@ use Rattle.model.specs.Raw.{modeOf}
 use Rattle.model.specs.Walk.{RemoveKind}
 use Rattle.model.proofs.Basics.{none-some, some-inj}
 use Rattle.model.proofs.ByteLaws.{same-eq}
-use Rattle.names.specs.Places.{firstOf}
+use Rattle.names.specs.Places.{indexOf}
 use Rattle.records.specs.Hex.{hexed}
 use Rattle.records.specs.Records.{starts, opKey, pathKey, kindKey, idKey, Verb, adds, takes, verbOf, Op, put, drops, putAs, opOf, goodId}
 use Rattle.records.specs.Answers.{valueRead}
@@ -30,7 +30,7 @@ starts-long key l e =
     omega (arith, q)
 
 -- The line at a place, of which n bytes stand before the newline
-module _ (key s : Bytes) (at : ℕ) {rest : Bytes} {n : ℕ} (er : rest ≡ drop at s) (en : n ≡ firstOf 10 rest) where
+module _ (key s : Bytes) (at : ℕ) {rest : Bytes} {n : ℕ} (er : rest ≡ drop at s) (en : n ≡ indexOf 10 rest) where
   pub no-newline : length rest ≤ n → none ≡ valueAt key s at
   unfolding valueAt
   no-newline h =

@@ -11,7 +11,7 @@ use lib.Seq.{drop-drop, take-nil}
 use borrow.Author.Tests.{ltb-true, ltb-false, leb-true, leb-false}
 use Rattle.model.specs.Bytes.{Bytes}
 use Rattle.model.proofs.Basics.{none-some, some-none, some-inj}
-use Rattle.names.specs.Places.{firstOf}
+use Rattle.names.specs.Places.{indexOf}
 use Rattle.records.specs.Hex.{hexed, bytesOf}
 use Rattle.records.specs.Records.{Line, whole, cut, ontoLine, lines, opKey, pathKey, kindKey, idKey, starts, said, Verb, verbOf, Op, opOf, goodId, editOf, Stage, atOp, atPath, atKind, atId, wrong, step, Read, bad, good, more, ended, stepped, read}
 use Rattle.records.specs.Places.{Part, textAt, past, lineLen, valueAt, Told, told, bind, opAt, pathAt, kindAt, idAt, recordFound, Next, nothing, broken, found, orBroken, nextAt}
@@ -19,26 +19,26 @@ use Rattle.records.proofs.PlaceLaws.{starts-long}
 use Rattle.records.proofs.NextLaws.{op-parts, path-parts, kind-parts, id-parts}
 
 -- The first line of some bytes: it ends at the first newline, or nowhere
-pub first-line : (s : Bytes) → firstOf 10 s < length s → lines s ≡ whole (take (firstOf 10 s) s) ∷ lines (drop (suc (firstOf 10 s)) s)
-unfolding firstOf lines
+pub first-line : (s : Bytes) → indexOf 10 s < length s → lines s ≡ whole (take (indexOf 10 s) s) ∷ lines (drop (suc (indexOf 10 s)) s)
+unfolding indexOf lines
 first-line [] h = absurd (omega arith)
 first-line (b ∷ s) h = go (eqb b 10) refl (first-line s) h
   where
-    go : (t : Bool) → eqb b 10 ≡ t → (firstOf 10 s < length s → lines s ≡ whole (take (firstOf 10 s) s) ∷ lines (drop (suc (firstOf 10 s)) s)) → cond t zero (suc (firstOf 10 s)) < suc (length s) →
-        cond t (whole [] ∷ lines s) (ontoLine b (lines s)) ≡ whole (take (cond t zero (suc (firstOf 10 s))) (b ∷ s)) ∷ lines (drop (suc (cond t zero (suc (firstOf 10 s)))) (b ∷ s))
+    go : (t : Bool) → eqb b 10 ≡ t → (indexOf 10 s < length s → lines s ≡ whole (take (indexOf 10 s) s) ∷ lines (drop (suc (indexOf 10 s)) s)) → cond t zero (suc (indexOf 10 s)) < suc (length s) →
+        cond t (whole [] ∷ lines s) (ontoLine b (lines s)) ≡ whole (take (cond t zero (suc (indexOf 10 s))) (b ∷ s)) ∷ lines (drop (suc (cond t zero (suc (indexOf 10 s)))) (b ∷ s))
     go true e ih k = refl
     go false e ih k = ap (ontoLine b) (ih (omega arith))
 
-pub no-first-line : (s : Bytes) → 0 < length s → length s ≤ firstOf 10 s → lines s ≡ cut ∷ []
-unfolding firstOf lines
+pub no-first-line : (s : Bytes) → 0 < length s → length s ≤ indexOf 10 s → lines s ≡ cut ∷ []
+unfolding indexOf lines
 no-first-line [] g h = absurd (omega arith)
 no-first-line (b ∷ s) g h = go (eqb b 10) refl (no-first-line s) h
   where
-    rest : (l : Bytes) → (0 < length l → length l ≤ firstOf 10 l → lines l ≡ cut ∷ []) → length l ≤ firstOf 10 l → ontoLine b (lines l) ≡ cut ∷ []
+    rest : (l : Bytes) → (0 < length l → length l ≤ indexOf 10 l → lines l ≡ cut ∷ []) → length l ≤ indexOf 10 l → ontoLine b (lines l) ≡ cut ∷ []
     rest [] ih k = refl
     rest (x ∷ l) ih k = ap (ontoLine b) (ih (omega arith) k)
 
-    go : (t : Bool) → eqb b 10 ≡ t → (0 < length s → length s ≤ firstOf 10 s → lines s ≡ cut ∷ []) → suc (length s) ≤ cond t zero (suc (firstOf 10 s)) →
+    go : (t : Bool) → eqb b 10 ≡ t → (0 < length s → length s ≤ indexOf 10 s → lines s ≡ cut ∷ []) → suc (length s) ≤ cond t zero (suc (indexOf 10 s)) →
         cond t (whole [] ∷ lines s) (ontoLine b (lines s)) ≡ cut ∷ []
     go true e ih k = absurd (omega arith)
     go false e ih k = rest s ih (omega arith)

@@ -5,7 +5,7 @@ use mathlib.Core.Option.{Option, none, some}
 use lib.Dec.{leb, ltb}
 use lib.ListN.{length, take, drop}
 use Rattle.model.specs.Bytes.{Bytes}
-use Rattle.names.specs.Places.{firstOf}
+use Rattle.names.specs.Places.{indexOf}
 use Rattle.records.specs.Hex.{hexed, bytesOf}
 use Rattle.records.specs.Records.{starts, opKey, pathKey, kindKey, idKey, Verb, verbOf, Op, opOf, goodId, editOf, Record}
 
@@ -22,7 +22,7 @@ past p = p .at + p .len + 1
 
 -- how long the line at a place is, and where its value stands, if a newline ends it and it begins with the key
 abbrev pub lineLen : Bytes → ℕ → ℕ
-lineLen s at = firstOf 10 (drop at s)
+lineLen s at = indexOf 10 (drop at s)
 
 unfoldable pub valueAt : Bytes → Bytes → ℕ → Option Part
 valueAt key s at =

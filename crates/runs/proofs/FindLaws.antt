@@ -2,25 +2,14 @@
 use mathlib.Core.Path.{_≡_, refl, sym, ap, ap₂, _∙_}
 use mathlib.Core.Bool.{Bool, true, false, _&&_}
 use mathlib.Core.List.{List, [], _∷_}
-use Prim.Native.Nat.{ℕ, zero, suc, _+_, _-_, _≤_, _<_}
+use Prim.Native.Nat.{ℕ, zero, suc, _+_, _≤_, _<_}
 use native.Mathlib.Nat.{le-of-suc-le-suc, not-suc-le-zero}
 use native.Mathlib.Numerals.{add-one}
-use native.Mathlib.Omega.{arith}
 use lib.ListN.{length, take, drop, getD, drop-of-length-le}
 use lib.Seq.{drop-cons, drop-drop}
-use Rattle.model.specs.Bytes.{Bytes, same}
-use Rattle.model.proofs.ByteLaws.{same-eq}
 use Rattle.runs.specs.Runs.{total, cut, runOf}
-use Rattle.runs.specs.Find.{hit, pick, findFrom, firstAt, firstsFrom}
+use Rattle.runs.specs.Find.{hit, pick, findFrom}
 use Rattle.runs.specs.declared.runs.Found.the-variants.{At, Nothing}
-
--- bytes of another length are other bytes
-pub same-longer : (p r : Bytes) (n : ℕ) → length r ≡ n → (n ≡ length p → ⊥) → same p r ≡ false
-same-longer p r n e ne = go (same p r) refl
-  where
-    go : (b : Bool) → same p r ≡ b → b ≡ false
-    go true h = absurd (ne (sym e ∙ ap length (sym (same-eq p r h))))
-    go false h = refl
 
 pub and-false : (b c : Bool) → c ≡ false → false ≡ (b && c)
 and-false true c e = sym e
@@ -45,13 +34,3 @@ find-step i ds rs p h k =
 pub find-end : (i : ℕ) (ds : List ℕ) (rs : List (List ℕ)) (p : List ℕ) → length ds ≤ i → findFrom i (drop i ds) rs p ≡ Nothing
 unfolding findFrom
 find-end i ds rs p h = ap (λ (l : List ℕ). findFrom i l rs p) (drop-of-length-le ds h)
-
-pub firsts-step : (k : ℕ) (ds : List ℕ) (rs : List (List ℕ)) → k < 64 → firstsFrom (64 - k) k ds rs ≡ (firstAt k ds rs && firstsFrom (64 - (k + 1)) (k + 1) ds rs)
-unfolding firstsFrom
-firsts-step k ds rs h =
-    let e : 64 - k ≡ suc (64 - (k + 1)) = omega arith in
-    ap (λ (n : ℕ). firstsFrom n k ds rs) e
-
-pub firsts-end : (n k : ℕ) (ds : List ℕ) (rs : List (List ℕ)) → n ≡ 0 → firstsFrom n k ds rs ≡ true
-unfolding firstsFrom
-firsts-end n k ds rs h = ap (λ (x : ℕ). firstsFrom x k ds rs) h

@@ -1,12 +1,14 @@
 -- Laws of `splice`, `part`, `inserted` and `removed`. Assumes nothing.
-use mathlib.Core.Path.{_≡_, refl, sym, ap, _∙_}
+use mathlib.Core.Path.{_≡_, refl, sym, ap, ap₂, _∙_}
 use mathlib.Core.List.{List, [], _∷_, _++_, append-assoc}
-use Prim.Native.Nat.{ℕ, suc, _+_, _-_, _≤_, _<_}
+use Prim.Native.Nat.{ℕ, zero, suc, _+_, _-_, _≤_, _<_}
 use native.Mathlib.Nat.{add-zero}
+use native.Mathlib.Numerals.{add-one}
 use native.Mathlib.Omega.{arith}
-use lib.ListN.{length, take, drop, getD, set, length-append, length-drop, take-append-drop, List·getD-append}
-use lib.Seq.{take-suc, drop-cons, append-snoc, set-at, length-take-le, getD-take, getD-drop, getD-append-add, take-at, drop-at, take-append-le, take-take, drop-drop, take-add}
+use lib.ListN.{length, take, drop, getD, set, length-append, length-drop, length-set, take-append-drop}
+use lib.Seq.{drop-cons, set-split, length-take-le, take-at, drop-at, take-append-le, drop-append-le, take-take, drop-drop, take-add}
 use Rattle.names.specs.Splice.{splice}
+use Rattle.names.proofs.WriteLaws.{length-splice, splice-splice}
 use Rattle.runs.specs.Moves.{part, inserted, removed, over}
 
 -- `splice` with its parts in the order in which they stand
@@ -17,36 +19,22 @@ splice-is d p xs = append-assoc (take p d) xs (drop (p + length xs) d)
 pub splice-nil : (d : List ℕ) (p : ℕ) → d ≡ splice d p []
 splice-nil d p = sym (splice-is d p [] ∙ rw (add-zero p) (take-append-drop p d))
 
--- one element more in front
-pub splice-cons : (d : List ℕ) (p : ℕ) (xs : List ℕ) (v : ℕ) → p < length d → set (splice d (suc p) xs) p v ≡ splice d p (v ∷ xs)
-splice-cons d p xs v h =
-    let e : suc p + length xs ≡ p + suc (length xs) = omega arith in
-    let l : length (take p d) ≡ p = length-take-le p d (omega arith) in
-    rw (splice-is d (suc p) xs, splice-is d p (v ∷ xs), take-suc d p 0 h, append-snoc, set-at (take p d) _ _ v p l, e)
+-- one more write in front of the first
+pub splice-before : (d : List ℕ) (p : ℕ) (xs ys : List ℕ) (q : ℕ) → q ≡ p + length xs → q ≤ length d → splice (splice d q ys) p xs ≡ splice d p (xs ++ ys)
+splice-before d p xs ys q e h =
+    let lq : length (take q d) ≡ q = length-take-le q d h in
+    let a : take p (splice d q ys) ≡ take p d =
+    ap (take p) (splice-is d q ys) ∙ take-append-le p (take q d) _ (omega (arith, lq)) ∙ take-take p q d (omega arith) in
+    let b : drop (p + length xs) (splice d q ys) ≡ ys ++ drop (q + length ys) d =
+    ap₂ drop (sym e) (splice-is d q ys) ∙ drop-at (take q d) _ q lq in
+    let f : q + length ys ≡ p + length (xs ++ ys) = omega (arith, length-append xs ys) in
+    splice-is (splice d q ys) p xs ∙ rw (a, b, f, splice-is d p (xs ++ ys)) (simp append-assoc)
 
--- one element more behind
-pub splice-snoc : (d : List ℕ) (p : ℕ) (xs : List ℕ) (v : ℕ) → p + length xs < length d → set (splice d p xs) (p + length xs) v ≡ splice d p (xs ++ (v ∷ []))
-splice-snoc d p xs v h =
-    let l : length (take p d ++ xs) ≡ p + length xs = simp (length-append, length-take-le p d (omega arith)) in
-    let e : p + length (xs ++ (v ∷ [])) ≡ suc (p + length xs) = simp length-append (omega arith) in
-    rw (splice-is d p xs, splice-is d p (xs ++ (v ∷ [])), drop-cons d (p + length xs) 0 h, ← append-assoc, set-at (take p d ++ xs) _ _ v _ l, e)
-    (simp append-assoc)
-
-pub getD-splice-below : (d : List ℕ) (p : ℕ) (xs : List ℕ) (i : ℕ) → i < p → p ≤ length d → getD (splice d p xs) i 0 ≡ getD d i 0
-getD-splice-below d p xs i h k =
-    let l : i < length (take p d) = simp (length-take-le p d k) h in
-    rw (splice-is d p xs) (List·getD-append (take p d) _ 0 i l ∙ getD-take p d i 0 h)
-
-pub getD-splice-above : (d : List ℕ) (p : ℕ) (xs : List ℕ) (i : ℕ) → p + length xs ≤ i → p + length xs ≤ length d → getD (splice d p xs) i 0 ≡ getD d i 0
-unfolding splice
-getD-splice-above d p xs i h k =
-    let l : length (take p d ++ xs) ≡ p + length xs = simp (length-append, length-take-le p d (omega arith)) in
-    let e : i ≡ length (take p d ++ xs) + (i - (p + length xs)) = omega arith in
-    let f : p + length xs + (i - (p + length xs)) ≡ i = omega arith in
-    ap (λ (m : ℕ). getD (splice d p xs) m 0) e
-    ∙ getD-append-add (take p d ++ xs) (drop (p + length xs) d) (i - (p + length xs)) 0
-    ∙ getD-drop (p + length xs) d (i - (p + length xs)) 0
-    ∙ ap (λ (m : ℕ). getD d m 0) f
+-- a write of one byte
+pub splice-one : (d : List ℕ) (p v : ℕ) → p < length d → set d p v ≡ splice d p (v ∷ [])
+splice-one d p v h =
+    let e : suc p ≡ p + length (v ∷ []) = omega arith in
+    set-split d p v h ∙ ap (λ (m : ℕ). take p d ++ v ∷ drop m d) e ∙ sym (splice-is d p (v ∷ []))
 
 pub part-none : (l : List ℕ) (k : ℕ) → part l k 0 ≡ []
 part-none l k = refl
@@ -54,62 +42,167 @@ part-none l k = refl
 pub part-cons : (l : List ℕ) (k m : ℕ) → k < length l → part l k (suc m) ≡ getD l k 0 ∷ part l (suc k) m
 part-cons l k m h = rw (drop-cons l k 0 h)
 
-pub part-snoc : (l : List ℕ) (k m : ℕ) → k + m < length l → part l k (suc m) ≡ part l k m ++ (getD l (k + m) 0 ∷ [])
-part-snoc l k m h =
-    let j : m < length (drop k l) = simp length-drop (omega arith) in
-    take-suc (drop k l) m 0 j ∙ ap (λ (v : ℕ). take m (drop k l) ++ (v ∷ [])) (getD-drop k l m 0)
+part-one : (l : List ℕ) (k : ℕ) → k < length l → (getD l k 0 ∷ []) ≡ part l k 1
+part-one l k h = sym (part-cons l k 0 h)
+
+-- a part in two
+pub part-add : (l : List ℕ) (k m n : ℕ) → part l k (m + n) ≡ part l k m ++ part l (k + m) n
+part-add l k m n = take-add m n (drop k l) ∙ ap (λ (x : List ℕ). part l k m ++ take n x) (drop-drop m k l)
 
 pub length-part : (l : List ℕ) (k m : ℕ) → k + m ≤ length l → length (part l k m) ≡ m
 length-part l k m h = length-take-le m (drop k l) (simp length-drop (omega arith))
 
--- ---- a turn of each loop
+pub drop-take : (m n : ℕ) (l : List ℕ) → m ≤ n → n ≤ length l → drop m (take n l) ≡ part l m (n - m)
+drop-take m n l h k =
+    let e : n ≡ m + (n - m) = omega arith in
+    ap (λ (x : ℕ). drop m (take x l)) e ∙ ap (drop m) (take-add m (n - m) l) ∙ drop-at (take m l) (part l m (n - m)) m (length-take-le m l (omega arith))
 
-pub up-step : (d : List ℕ) (used n : ℕ) (s : List ℕ) (k : ℕ) → used + n ≤ length d → 0 < k → k ≤ used → s ≡ splice d (k + n) (part d k (used - k))
-    → set s (k - 1 + n) (getD s (k - 1) 0) ≡ splice d (k - 1 + n) (part d (k - 1) (used - (k - 1)))
-up-step d used n s k room pos h e =
-    let a : k + n ≡ suc (k - 1 + n) = omega arith in
-    let b : used - (k - 1) ≡ suc (used - k) = omega arith in
-    let f : suc (k - 1) ≡ k = omega arith in
-    let g : getD s (k - 1) 0 ≡ getD d (k - 1) 0 =
-    ap (λ (m : List ℕ). getD m (k - 1) 0) e ∙ getD-splice-below d (k + n) (part d k (used - k)) (k - 1) (omega arith) (omega arith) in
-    let q : part d (k - 1) (used - (k - 1)) ≡ getD d (k - 1) 0 ∷ part d k (used - k) =
-    ap (part d (k - 1)) b ∙ part-cons d (k - 1) (used - k) (omega arith) ∙ ap (λ (m : ℕ). getD d (k - 1) 0 ∷ part d m (used - k)) f in
-    ap (λ (m : ℕ). set s (k - 1 + n) m) g
-    ∙ ap (λ (m : List ℕ). set m (k - 1 + n) (getD d (k - 1) 0)) (e ∙ ap (λ (m : ℕ). splice d m (part d k (used - k))) a)
-    ∙ splice-cons d (k - 1 + n) (part d k (used - k)) (getD d (k - 1) 0) (omega arith)
-    ∙ ap (splice d (k - 1 + n)) (sym q)
+-- what stands before a write, or behind it, stays
+pub part-before : (d : List ℕ) (p : ℕ) (xs : List ℕ) (k m : ℕ) → k + m ≤ p → p ≤ length d → part (splice d p xs) k m ≡ part d k m
+part-before d p xs k m h g =
+    let l : length (take p d) ≡ p = length-take-le p d g in
+    let r : length (drop k (take p d)) ≡ p - k = length-drop k (take p d) ∙ ap (λ (x : ℕ). x - k) l in
+    ap (λ (x : List ℕ). part x k m) (splice-is d p xs)
+    ∙ ap (take m) (drop-append-le k (take p d) _ (omega (arith, l)))
+    ∙ take-append-le m (drop k (take p d)) _ (omega (arith, r))
+    ∙ ap (take m) (drop-take k p d (omega arith) g)
+    ∙ take-take m (p - k) (drop k d) (omega arith)
 
-pub down-step : (d : List ℕ) (at n : ℕ) (s : List ℕ) (k : ℕ) → at + n ≤ k → k < length d → s ≡ splice d at (part d (at + n) (k - (at + n)))
-    → set s (k - n) (getD s k 0) ≡ splice d at (part d (at + n) (k + 1 - (at + n)))
-down-step d at n s k low h e =
-    let l : length (part d (at + n) (k - (at + n))) ≡ k - (at + n) = length-part d (at + n) (k - (at + n)) (omega arith) in
-    let g : getD s k 0 ≡ getD d k 0 =
-    ap (λ (m : List ℕ). getD m k 0) e ∙ getD-splice-above d at (part d (at + n) (k - (at + n))) k (omega arith) (omega arith) in
-    let a : k - n ≡ at + length (part d (at + n) (k - (at + n))) = omega arith in
-    let b : k + 1 - (at + n) ≡ suc (k - (at + n)) = omega arith in
-    let f : at + n + (k - (at + n)) ≡ k = omega arith in
-    let q : part d (at + n) (k + 1 - (at + n)) ≡ part d (at + n) (k - (at + n)) ++ (getD d k 0 ∷ []) =
-    ap (part d (at + n)) b ∙ part-snoc d (at + n) (k - (at + n)) (omega arith) ∙ ap (λ (m : ℕ). part d (at + n) (k - (at + n)) ++ (getD d m 0 ∷ [])) f in
-    ap (λ (m : ℕ). set s (k - n) m) g
-    ∙ ap (λ (m : List ℕ). set m (k - n) (getD d k 0)) e
-    ∙ ap (λ (m : ℕ). set (splice d at (part d (at + n) (k - (at + n)))) m (getD d k 0)) a
-    ∙ splice-snoc d at (part d (at + n) (k - (at + n))) (getD d k 0) (omega arith)
-    ∙ ap (splice d at) (sym q)
+pub part-behind : (d : List ℕ) (p : ℕ) (xs : List ℕ) (k m : ℕ) → p + length xs ≤ k → p + length xs ≤ length d → part (splice d p xs) k m ≡ part d k m
+unfolding splice
+part-behind d p xs k m h g =
+    let q = p + length xs in
+    let l : length (take p d ++ xs) ≡ q = length-append (take p d) xs ∙ ap (λ (x : ℕ). x + length xs) (length-take-le p d (omega arith)) in
+    let e : k ≡ q + (k - q) = omega arith in
+    ap (take m)
+    (ap (λ (x : ℕ). drop x (splice d p xs)) e ∙ sym (drop-drop (k - q) q (splice d p xs))
+    ∙ ap (drop (k - q)) (drop-at (take p d ++ xs) (drop q d) q l)
+    ∙ drop-drop (k - q) q d ∙ ap (λ (x : ℕ). drop x d) (sym e))
+
+-- ---- bytes read, and written, one after the other
+
+abbrev pub reads : List ℕ → ℕ → ℕ → ℕ → List ℕ
+reads l k j zero = []
+reads l k j (suc n) = getD l (k + j) 0 ∷ reads l k (suc j) n
+
+reads-is : (l : List ℕ) (k j n : ℕ) → k + j + n ≤ length l → reads l k j n ≡ part l (k + j) n
+reads-is l k j zero h = refl
+reads-is l k j (suc n) h =
+    let e : k + suc j ≡ suc (k + j) = omega arith in
+    ap (λ (x : List ℕ). getD l (k + j) 0 ∷ x) (reads-is l k (suc j) n (omega arith) ∙ ap (λ (x : ℕ). part l x n) e) ∙ sym (part-cons l (k + j) n (omega arith))
+
+pub read-part : (l : List ℕ) (k n : ℕ) → k + suc n ≤ length l → (getD l k 0 ∷ reads l k 1 n) ≡ part l k (suc n)
+read-part l k n h =
+    ap (λ (x : List ℕ). getD l k 0 ∷ x) (reads-is l k 1 n (omega arith) ∙ ap (λ (x : ℕ). part l x n) (add-one k)) ∙ sym (part-cons l k n (omega arith))
+
+abbrev pub writes : List ℕ → ℕ → ℕ → List ℕ → List ℕ
+writes s k j [] = s
+writes s k j (v ∷ vs) = writes (set s (k + j) v) k (suc j) vs
+
+-- a byte written, and others behind it
+one-more : (s : List ℕ) (p q v : ℕ) (vs : List ℕ) → q ≡ p + 1 → p + suc (length vs) ≤ length s → splice (set s p v) q vs ≡ splice s p (v ∷ vs)
+one-more s p q v vs e h = ap₂ (λ (l : List ℕ) (m : ℕ). splice l m vs) (splice-one s p v (omega arith)) e ∙ splice-splice s p (v ∷ []) vs (omega arith)
+
+writes-is : (s : List ℕ) (k j : ℕ) (vs : List ℕ) → k + j + length vs ≤ length s → writes s k j vs ≡ splice s (k + j) vs
+writes-is s k j [] h = splice-nil s (k + j)
+writes-is s k j (v ∷ vs) h =
+    writes-is (set s (k + j) v) k (suc j) vs (simp length-set (omega arith)) ∙ one-more s (k + j) (k + suc j) v vs (omega arith) (omega arith)
+
+pub write-part : (s : List ℕ) (k v : ℕ) (vs : List ℕ) → k + suc (length vs) ≤ length s → writes (set s k v) k 1 vs ≡ splice s k (v ∷ vs)
+write-part s k v vs h = writes-is (set s k v) k 1 vs (simp length-set (omega arith)) ∙ one-more s k (k + 1) v vs refl h
+
+-- ---- a turn of each loop, which moves as many bytes as it likes
+
+-- s is d with its bytes from k to `used` standing n higher
+pub record Raised (d : List ℕ) (at used n : ℕ) (s : List ℕ) (k : ℕ) : Type 0 where
+  pub low : at ≤ k
+  pub high : k ≤ used
+  pub long : length s ≡ length d
+  pub moved : s ≡ splice d (k + n) (part d k (used - k))
+
+module _ {d : List ℕ} {at used n : ℕ} {s : List ℕ} {k : ℕ} (w : Raised d at used n s k) (room : used + n ≤ length d) where
+  pub raise : (j c : ℕ) → at ≤ j → j + c ≡ k → (xs t : List ℕ) → xs ≡ part s j c → t ≡ splice s (j + n) xs → Raised d at used n t j
+  raise j c h e xs t r f =
+      let x : xs ≡ part d j c = r ∙ ap (λ (l : List ℕ). part l j c) (w .moved) ∙ part-before d (k + n) (part d k (used - k)) j c (omega arith) (omega (arith, w .high)) in
+      let l : length xs ≡ c = ap length x ∙ length-part d j c (omega (arith, w .high)) in
+      let m : c + (used - k) ≡ used - j = omega (arith, w .high) in
+      let y : xs ++ part d k (used - k) ≡ part d j (used - j) =
+      ap₂ (λ (u : List ℕ) (v : ℕ). u ++ part d v (used - k)) x (sym e) ∙ sym (part-add d j c (used - k)) ∙ ap (part d j) m in
+      record {
+        low = h;
+        high = omega (arith, w .high);
+        long = ap length f ∙ length-splice s (j + n) xs (omega (arith, w .high, w .long)) ∙ w .long;
+        moved = f ∙ ap (λ (l : List ℕ). splice l (j + n) xs) (w .moved) ∙ splice-before d (j + n) xs (part d k (used - k)) (k + n) (omega arith) (omega (arith, w .high)) ∙ ap (splice d (j + n)) y;
+      }
+
+  pub raise-one : at < k → Raised d at used n (set s (k - 1 + n) (getD s (k - 1) 0)) (k - 1)
+  raise-one h =
+      raise (k - 1) 1 (omega arith) (omega arith) (getD s (k - 1) 0 ∷ []) _ (part-one s (k - 1) (omega (arith, w .high, w .long)))
+      (splice-one s (k - 1 + n) (getD s (k - 1) 0) (omega (arith, w .high, w .long)))
+
+  pub raised : k ≤ at → s ≡ splice d (at + n) (part d at (used - at))
+  raised h =
+      let e : k ≡ at = omega (arith, w .low) in
+      w .moved ∙ ap (λ (x : ℕ). splice d (x + n) (part d x (used - x))) e
+
+-- s is d with its bytes from q to k standing at p
+pub record Lowered (d : List ℕ) (p q used : ℕ) (s : List ℕ) (k : ℕ) : Type 0 where
+  pub down : p ≤ q
+  pub low : q ≤ k
+  pub high : k ≤ used
+  pub long : length s ≡ length d
+  pub moved : s ≡ splice d p (part d q (k - q))
+
+module _ {d : List ℕ} {p q used : ℕ} {s : List ℕ} {k : ℕ} (w : Lowered d p q used s k) (room : used ≤ length d) where
+  pub lower : (i c : ℕ) → i + q ≡ p + k → k + c ≤ used → (xs t : List ℕ) → xs ≡ part s k c → t ≡ splice s i xs → Lowered d p q used t (k + c)
+  lower i c at h xs t r f =
+      let b = part d q (k - q) in
+      let g : length b ≡ k - q = length-part d q (k - q) (omega (arith, w .low)) in
+      let z : i ≡ p + length b = omega (arith, w .low) in
+      let x : xs ≡ part d k c = r ∙ ap (λ (l : List ℕ). part l k c) (w .moved) ∙ part-behind d p b k c (omega (arith, w .low, w .down)) (omega (arith, w .low, w .down)) in
+      let l : length xs ≡ c = ap length x ∙ length-part d k c (omega arith) in
+      let m : k - q + c ≡ k + c - q = omega (arith, w .low) in
+      let o : q + (k - q) ≡ k = omega (arith, w .low) in
+      let y : b ++ xs ≡ part d q (k + c - q) =
+      ap (λ (u : List ℕ). b ++ u) x ∙ ap (λ (v : ℕ). b ++ part d v c) (sym o) ∙ sym (part-add d q (k - q) c) ∙ ap (part d q) m in
+      record {
+        down = w .down;
+        low = omega (arith, w .low);
+        high = h;
+        long = ap length f ∙ length-splice s i xs (omega (arith, w .low, w .down, w .long)) ∙ w .long;
+        moved = f ∙ ap₂ (λ (u : List ℕ) (v : ℕ). splice u v xs) (w .moved) z ∙ splice-splice d p b xs (omega (arith, w .low, w .down)) ∙ ap (splice d p) y;
+      }
+
+  pub lower-one : (i : ℕ) → i + q ≡ p + k → k < used → Lowered d p q used (set s i (getD s k 0)) (k + 1)
+  lower-one i at h =
+      lower i 1 at (omega arith) (getD s k 0 ∷ []) _ (part-one s k (omega (arith, w .long))) (splice-one s i (getD s k 0) (omega (arith, w .down, w .low, w .long)))
+
+  pub lowered : used ≤ k → s ≡ splice d p (part d q (used - q))
+  lowered h =
+      let e : k ≡ used = omega (arith, w .high) in
+      w .moved ∙ ap (λ (x : ℕ). splice d p (part d q (x - q))) e
 
 pub down-none : (d : List ℕ) (p k : ℕ) → d ≡ splice d p (part d k (k - k))
 down-none d p k =
     let z : k - k ≡ 0 = omega arith in
     splice-nil d p ∙ ap (λ (m : ℕ). splice d p (part d k m)) (sym z)
 
-pub up-none : (d : List ℕ) (used n : ℕ) → d ≡ splice d (used + n) (part d used (used - used))
-up-none d used n = down-none d (used + n) used
+pub raise-none : (d : List ℕ) (at used n : ℕ) → at ≤ used → Raised d at used n d used
+raise-none d at used n h = record { low = h; high = omega arith; long = refl; moved = down-none d (used + n) used }
+
+pub lower-none : (d : List ℕ) (p q used : ℕ) → p ≤ q → q ≤ used → Lowered d p q used d q
+lower-none d p q used g h = record { down = g; low = omega arith; high = h; long = refl; moved = down-none d p q }
+
+-- a part written where it stands changes nothing
+pub stays : (d : List ℕ) (at k m : ℕ) → k ≡ at → at + m ≤ length d → d ≡ splice d at (part d k m)
+stays d at k m e h =
+    let l : length (part d at m) ≡ m = length-part d at m h in
+    sym (ap (λ (x : ℕ). splice d at (part d x m)) e ∙ splice-is d at (part d at m)
+    ∙ ap (λ (x : ℕ). take at d ++ (part d at m ++ drop (at + x) d)) l
+    ∙ ap (λ (x : List ℕ). take at d ++ (part d at m ++ x)) (sym (drop-drop m at d))
+    ∙ ap (λ (x : List ℕ). take at d ++ x) (take-append-drop m (drop at d)) ∙ take-append-drop at d)
 
 -- ---- a run put in, and taken out
-
-pub drop-take : (m n : ℕ) (l : List ℕ) → m ≤ n → n ≤ length l → drop m (take n l) ≡ part l m (n - m)
-drop-take m n l h k =
-    let e : n ≡ m + (n - m) = omega arith in
-    ap (λ (x : ℕ). drop m (take x l)) e ∙ ap (drop m) (take-add m (n - m) l) ∙ drop-at (take m l) (part l m (n - m)) m (length-take-le m l (omega arith))
 
 pub length-inserted : (l : List ℕ) (at : ℕ) (src : List ℕ) → at ≤ length l → length (inserted l at src) ≡ length l + length src
 length-inserted l at src h = simp (length-append, length-drop, length-take-le at l h) (omega arith)

@@ -1,9 +1,8 @@
 -- The first used slot with a path. Assumes nothing.
-use Prim.Native.Nat.{ℕ, zero, suc, _+_}
-use mathlib.Core.Bool.{Bool, true, false, not, _&&_, _||_}
+use Prim.Native.Nat.{ℕ, _+_}
+use mathlib.Core.Bool.{Bool, true, false, not, _&&_}
 use mathlib.Core.List.{List, [], _∷_}
 use lib.Dec.{eqb}
-use lib.ListN.{getD}
 use Rattle.model.specs.Bytes.{same}
 use Rattle.runs.specs.declared.runs.Found.{Found}
 use Rattle.runs.specs.declared.runs.Found.the-variants.{At, Nothing}
@@ -21,16 +20,3 @@ unfoldable pub findFrom : ℕ → List ℕ → List (List ℕ) → List ℕ → 
 findFrom i [] rs p = Nothing
 findFrom i (d ∷ ds) [] p = Nothing
 findFrom i (d ∷ ds) (r ∷ rs) p = pick (hit d r p) (At i) (findFrom (i + 1) ds rs p)
-
-abbrev pub foundAt : Found → ℕ → Bool
-foundAt (At i) k = eqb i k
-foundAt Nothing k = false
-
--- the slot k, if used, is the first at its path
-abbrev pub firstAt : ℕ → List ℕ → List (List ℕ) → Bool
-firstAt k ds rs = eqb (getD ds k 0) 1 || foundAt (findFrom 0 ds rs (getD rs k [])) k
-
--- the slot k, if used, is the first at its path; and so are those after it
-unfoldable pub firstsFrom : ℕ → ℕ → List ℕ → List (List ℕ) → Bool
-firstsFrom zero k ds rs = true
-firstsFrom (suc n) k ds rs = firstAt k ds rs && firstsFrom n (k + 1) ds rs

@@ -5,7 +5,7 @@ ghost use lib.ListN.{length, take, drop, getD, set, replicate};
 ghost use mathlib.Core.List.{List, _++_};
 ghost use Rattle.runs.specs.Moves.{part, inserted, removed};
 ghost use Rattle.runs.specs.Runs.{total, cut, runOf, withRun, Sound};
-ghost use Rattle.runs.specs.Find.{hit, findFrom, firstAt, firstsFrom};
+ghost use Rattle.runs.specs.Find.{hit, findFrom};
 ghost use lib.Dec.{eqb};
 ghost use Rattle.runs.specs.Digits.{digits};
 
@@ -77,17 +77,15 @@ pub enum Found {
 }
 
 // Whether the slot k is used and at the path: its own path is the n bytes from a on.
-fn is_at(free: u64, bytes: &[u8], k: usize, a: usize, n: usize, path: &[u8]) -> bool
+pub fn is_at(free: u64, bytes: &[u8], k: usize, a: usize, n: usize, path: &[u8]) -> bool
     requires { ⌜ (k < 64) × (a + n ≤ length (now bytes)) ⌝ }
     ensures { λ r. ⌜ r ≡ hit (getD (digits 64 free) k 0) (part (now (bytes .entry)) a n) (now (path .entry)) ⌝ }
 {
-    if n != path.len() {
+    let e = a + n;
+    if !names::order::same_bytes(path, &bytes[a..e]) {
         return false;
     }
-    if crate::free::is_free(free, k) {
-        return false;
-    }
-    names::order::same_bytes(path, names::part::between(bytes, a, n))
+    !crate::free::is_free(free, k)
 }
 
 // The first slot that is used and at the path.
@@ -123,36 +121,6 @@ pub fn sum_is(lens: &[u64], used: usize) -> bool
         i += 1;
     }
     left == 0
-}
-
-// Whether the slot k, if used, is the first at its path.
-pub fn first_at(free: u64, lens: &[u64], bytes: &[u8], used: usize, k: usize) -> bool
-    requires { ⌜ Sound (now lens) (now bytes) used × (length (now lens) ≡ 64) × (k < 64) ⌝ }
-    ensures { λ r. ⌜ r ≡ firstAt k (digits 64 free) (cut (now (lens .entry)) (now (bytes .entry))) ⌝ }
-{
-    if crate::free::is_free(free, k) {
-        return true;
-    }
-    let found = find(free, lens, bytes, used, run(lens, bytes, used, k));
-    match found {
-        Found::At(i) => i == k,
-        Found::Nothing => false,
-    }
-}
-
-// Whether the paths of the used slots are distinct.
-pub fn distinct(free: u64, lens: &[u64], bytes: &[u8], used: usize) -> bool
-    requires { ⌜ Sound (now lens) (now bytes) used × (length (now lens) ≡ 64) ⌝ }
-    ensures { λ r. ⌜ r ≡ firstsFrom 64 0 (digits 64 free) (cut (now (lens .entry)) (now (bytes .entry))) ⌝ }
-{
-    let mut k = 0;
-    while k < 64 {
-        if !first_at(free, lens, bytes, used, k) {
-            return false;
-        }
-        k += 1;
-    }
-    true
 }
 
 // No run has a byte.

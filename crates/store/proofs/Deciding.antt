@@ -1,5 +1,5 @@
 -- Laws of tests, and of a test of the slots one after the other. Assumes nothing.
-use mathlib.Core.Path.{_≡_, refl, sym, ap₂, _∙_, subst}
+use mathlib.Core.Path.{_≡_, refl, sym, ap, _∙_, subst}
 use mathlib.Core.Bool.{Bool, true, false}
 use mathlib.Core.List.{List, []}
 use Prim.Native.Nat.{ℕ, _+_, _-_, _≤_, _<_}
@@ -64,10 +64,14 @@ module _ {P : ℕ → Type 0} {lens bytes : List ℕ} {k a used : ℕ} (at : Alo
   pub ends : a + getD lens k 0 ≤ used
   ends = omega (arith, at .offset, total-within lens k (omega (arith, l)), sound .sum)
 
+  pub run-at : part bytes a (getD lens k 0) ≡ getD (cut lens bytes) k []
+  run-at = ap (λ (y : ℕ). part bytes y (getD lens k 0)) (at .offset) ∙ sym (cut-at lens bytes k (omega (arith, l)))
+
+  -- as the code takes it
   pub run-here : part bytes a (a + getD lens k 0 - a) ≡ getD (cut lens bytes) k []
   run-here =
       let e : a + getD lens k 0 - a ≡ getD lens k 0 = omega arith in
-      ap₂ (λ (x y : ℕ). part bytes y x) e (at .offset) ∙ sym (cut-at lens bytes k (omega (arith, l)))
+      ap (part bytes a) e ∙ run-at
 
   pub along-more : P k → Along P lens (k + 1) (a + getD lens k 0)
   along-more p = record { sofar = one-more (at .sofar) h p; offset = omega (arith, at .offset, total-more lens k (omega (arith, l))) }

@@ -18,7 +18,7 @@ use Rattle.model.specs.Order.{All}
 use Rattle.model.specs.Editor.{Held, at}
 use Rattle.model.specs.Valid.{isTreeEntry, hasParent}
 use Rattle.model.proofs.Basics.{none-some, some-none}
-use Rattle.model.proofs.ByteLaws.{has-here, has-past, same-eq, same-of, same-refl}
+use Rattle.model.proofs.ByteLaws.{has-here, has-past, same-eq, same-refl, same-of}
 use Rattle.model.proofs.ChangeLaws.{Plain, slash-last}
 use Rattle.model.proofs.MapLaws.{find-put-same}
 use Rattle.model.proofs.SearchLaws.{Right, halving-right}

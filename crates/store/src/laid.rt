@@ -96,17 +96,6 @@ fn good_paths(plens: &[u64], paths: &[u8], used: usize) -> bool
     true
 }
 
-// Whether the slot j is used, and its path, the run, is the path.
-fn is_at(map: u64, j: usize, run: &[u8], path: &[u8]) -> bool
-    requires { ⌜ j < 64 ⌝ }
-    ensures { λ r. ⌜ Decides ((getD (digits 64 map) j 0 ≡ 0) × (now (run .entry) ≡ now (path .entry))) r ⌝ }
-{
-    if !names::order::same_bytes(run, path) {
-        return false;
-    }
-    !runs::free::is_free(map, j)
-}
-
 // Whether no used slot before the slot k is at the path.
 fn is_new(map: u64, plens: &[u64], paths: &[u8], used: usize, k: usize, path: &[u8]) -> bool
     requires { ⌜ Sound (now plens) (now paths) used × (length (now plens) ≡ 64) × (k < 64) ⌝ }
@@ -115,11 +104,11 @@ fn is_new(map: u64, plens: &[u64], paths: &[u8], used: usize, k: usize, path: &[
     let mut a: usize = 0;
     let mut j = 0;
     while j < k {
-        let e = a + plens[j] as usize;
-        if is_at(map, j, &paths[a..e], path) {
+        let n = plens[j] as usize;
+        if runs::runs::is_at(map, paths, j, a, n, path) {
             return false;
         }
-        a = e;
+        a += n;
         j += 1;
     }
     true

@@ -1,9 +1,9 @@
 -- A write between two requests: the trees in hand, stacked and set aside, as the model's Going. Assumes nothing.
 use mathlib.Core.Path.{_≡_}
 use mathlib.Core.Bool.{true}
-use Prim.Native.Nat.{ℕ, _+_, _-_, _≤_, _<_}
+use Prim.Native.Nat.{ℕ, zero, suc, _+_, _-_, _≤_, _<_}
 use mathlib.Core.List.{List, [], _∷_, _++_}
-use lib.ListN.{length, take, drop, getD}
+use lib.ListN.{length, take, drop, getD, set}
 use Rattle.model.specs.Map.{del}
 use Rattle.model.specs.Editor.{Held, at}
 use Rattle.model.specs.Editor.{Editor as Model}
@@ -72,3 +72,18 @@ pub record SameSlots (r q : Editor) : Type 0 where
 pub record SameTree (plens paths tlens trees plens′ paths′ tlens′ trees′ : List ℕ) (k : ℕ) : Type 0 where
   pub path : getD (cut plens′ paths′) k [] ≡ getD (cut plens paths) k []
   pub run : getD (cut tlens′ trees′) k [] ≡ getD (cut tlens trees) k []
+
+-- the digits with those set that are set in the first map too
+abbrev pub either : ℕ → ℕ → ℕ
+either zero d = d
+either (suc n) d = 1
+
+unfoldable pub joined : List ℕ → List ℕ → List ℕ
+joined [] ds = ds
+joined (g ∷ gs) [] = []
+joined (g ∷ gs) (d ∷ ds) = either g d ∷ joined gs ds
+
+-- the digits with the place k set where n is not 0
+abbrev pub markIf : ℕ → List ℕ → ℕ → List ℕ
+markIf zero ds k = ds
+markIf (suc n) ds k = set ds k 1

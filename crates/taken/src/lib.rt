@@ -3,13 +3,18 @@
 ghost use mathlib.Core.Path.{_≡_};
 ghost use Prim.Native.Nat.{ℕ, _+_, _-_, _≤_, _<_};
 ghost use mathlib.Core.List.{List, [], _∷_};
-ghost use lib.ListN.{length, set};
+ghost use lib.ListN.{length, getD, set, replicate};
+ghost use Rattle.model.specs.Bytes.{has};
+ghost use Rattle.model.specs.Write.{bottom};
 ghost use mathlib.Core.Option.{none};
+ghost use mathlib.Core.Bool.{true, not, _&&_};
+ghost use lib.Dec.{eqb};
 ghost use Rattle.model.specs.Map.{put, del};
 ghost use Rattle.model.specs.Editor.{at};
 ghost use Rattle.runs.specs.Digits.{digits};
-ghost use Rattle.slots.specs.View.{Laid, Used, Ordered, SameWrite, editorOf, heldAt, pathOf, cachedOf};
-ghost use Rattle.taken.specs.Taken.{goingOf, stackedOn, keptOn, takenOff, Between, Cached, SameSlots, SameTree, writingOf};
+ghost use Rattle.runs.specs.Runs.{cut, Sound};
+ghost use Rattle.slots.specs.View.{Laid, Used, Ordered, SameWrite, editorOf, heldAt, pathOf, cachedOf, asideOf};
+ghost use Rattle.taken.specs.Taken.{goingOf, stackedOn, keptOn, takenOff, Between, Cached, SameSlots, SameTree, writingOf, allTaken, joined, markIf};
 use slots::Editor;
 use slots::Taken;
 
@@ -146,5 +151,158 @@ pub fn close(r: Editor) -> Editor
         stacked: 0,
         asked: 0,
         ..r
+    }
+}
+
+// The slot of the tree that the write started at.
+pub fn start(r: Editor, order: &[u64]) -> usize
+    requires { ⌜ Between r (now order) (r .asked ∷ []) ⌝ }
+    ensures start { λ k. ⌜ ((w : ℕ) (plens paths tlens trees : List ℕ) → heldAt w plens paths tlens trees k ≡ bottom (heldAt w plens paths tlens trees (r .asked)) (asideOf w r plens paths tlens trees (now (order .entry)))) ⌝ }
+    ensures taken { λ k. ⌜ has k (allTaken r (now (order .entry)) (r .asked ∷ [])) ≡ true ⌝ }
+{
+    if r.aside == 0 {
+        return r.asked;
+    }
+    order[0] as usize
+}
+
+// Whether the slot k is used and one of those in a map.
+fn goes(free: u64, gone: u64, k: usize) -> bool
+    requires { ⌜ k < 64 ⌝ }
+    ensures { λ b. ⌜ b ≡ (not (eqb (getD (digits 64 free) k 0) 1) && eqb (getD (digits 64 gone) k 0) 1) ⌝ }
+{
+    if runs::free::is_free(free, k) {
+        return false;
+    }
+    runs::free::is_free(gone, k)
+}
+
+// Drops the tree of a slot if the slot is used and one of those in a map.
+fn drop_one(
+    r: Editor,
+    plens: &mut [u64],
+    paths: &mut [u8],
+    tlens: &mut [u64],
+    trees: &mut [u8],
+    width: usize,
+    gone: u64,
+    k: usize,
+) -> Editor
+    requires { ⌜ Laid width r (now plens) (now paths) (now tlens) (now trees) × (width ≤ 64) × (k < 64) ⌝ }
+    ensures free { λ q. ⌜ digits 64 (q .free) ≡ markIf (getD (digits 64 gone) k 0) (digits 64 (r .free)) k ⌝ }
+    ensures others { λ q. ⌜ ((j : ℕ) → getD (digits 64 gone) j 0 ≡ 0 → SameTree (now (plens .entry)) (now (paths .entry)) (now (tlens .entry)) (now (trees .entry)) (now (plens .exit)) (now (paths .exit)) (now (tlens .exit)) (now (trees .exit)) j) ⌝ }
+    ensures laid { λ q. ⌜ Laid width q (now (plens .exit)) (now (paths .exit)) (now (tlens .exit)) (now (trees .exit)) ⌝ }
+    ensures same { λ q. ⌜ SameWrite r q ⌝ }
+{
+    let map = r.free;
+    if !goes(map, gone, k) {
+        return r;
+    }
+    slots::drop_slot(r, plens, paths, tlens, trees, width, k)
+}
+
+// Drops the tree of each used slot in a map.
+fn drop_each(
+    r: Editor,
+    plens: &mut [u64],
+    paths: &mut [u8],
+    tlens: &mut [u64],
+    trees: &mut [u8],
+    width: usize,
+    gone: u64,
+) -> Editor
+    requires { ⌜ Laid width r (now plens) (now paths) (now tlens) (now trees) × (width ≤ 64) ⌝ }
+    ensures free { λ q. ⌜ digits 64 (q .free) ≡ joined (digits 64 gone) (digits 64 (r .free)) ⌝ }
+    ensures others { λ q. ⌜ ((k : ℕ) → getD (digits 64 gone) k 0 ≡ 0 → SameTree (now (plens .entry)) (now (paths .entry)) (now (tlens .entry)) (now (trees .entry)) (now (plens .exit)) (now (paths .exit)) (now (tlens .exit)) (now (trees .exit)) k) ⌝ }
+    ensures laid { λ q. ⌜ Laid width q (now (plens .exit)) (now (paths .exit)) (now (tlens .exit)) (now (trees .exit)) ⌝ }
+    ensures same { λ q. ⌜ SameWrite r q ⌝ }
+{
+    let mut ed = r;
+    let mut k = 0;
+    while k < 64 {
+        ed = drop_one(ed, plens, paths, tlens, trees, width, gone, k);
+        k += 1;
+    }
+    ed
+}
+
+// Drops every taken tree but one, which is in hand then.
+pub fn drop_others(
+    r: Editor,
+    plens: &mut [u64],
+    paths: &mut [u8],
+    tlens: &mut [u64],
+    trees: &mut [u8],
+    width: usize,
+    start: usize,
+) -> Editor
+    requires { ⌜ Laid width r (now plens) (now paths) (now tlens) (now trees) × (width ≤ 64)
+        × ((order : List ℕ) × (hand : List ℕ) × Between r order hand × (has start (allTaken r order hand) ≡ true)) ⌝ }
+    ensures cache { λ q. ⌜ cachedOf width q (now (plens .exit)) (now (paths .exit)) (now (tlens .exit)) (now (trees .exit)) ≡ cachedOf width r (now (plens .entry)) (now (paths .entry)) (now (tlens .entry)) (now (trees .entry)) ⌝ }
+    ensures between { λ q. ⌜ ((order : List ℕ) → length order ≡ 64 → Between q order (start ∷ [])) ⌝ }
+    ensures laid { λ q. ⌜ Laid width q (now (plens .exit)) (now (paths .exit)) (now (tlens .exit)) (now (trees .exit)) ⌝ }
+    ensures others { λ q. ⌜ SameTree (now (plens .entry)) (now (paths .entry)) (now (tlens .entry)) (now (trees .entry)) (now (plens .exit)) (now (paths .exit)) (now (tlens .exit)) (now (trees .exit)) start ⌝ }
+    ensures same { λ q. ⌜ (q .hidden ≡ r .hidden) × (q .«open» ≡ r .«open») × (q .aside ≡ 0) × (q .stacked ≡ 0) ⌝ }
+{
+    let map = r.hidden;
+    let gone = runs::free::take(map, start);
+    let ed = drop_each(r, plens, paths, tlens, trees, width, gone);
+    Editor {
+        hidden: map,
+        aside: 0,
+        stacked: 0,
+        ..ed
+    }
+}
+
+// Every run but the run k becomes empty; gives its length.
+fn keep_run(lens: &mut [u64], bytes: &mut [u8], used: usize, k: usize) -> usize
+    requires { ⌜ Sound (now lens) (now bytes) used × (length (now lens) ≡ 64) × (k < 64) ⌝ }
+    ensures view { λ n. ⌜ cut (now (lens .exit)) (now (bytes .exit)) ≡ set (replicate 64 []) k (getD (cut (now (lens .entry)) (now (bytes .entry))) k []) ⌝ }
+    ensures sound { λ n. ⌜ Sound (now (lens .exit)) (now (bytes .exit)) n × (n ≡ getD (now (lens .entry)) k 0) ⌝ }
+{
+    let a = runs::runs::start(lens, k);
+    let n = lens[k] as usize;
+    runs::moves::remove(bytes, 0, a + n, a);
+    runs::runs::clear(lens);
+    lens[k] = n as u64;
+    n
+}
+
+// Drops every tree but the one in a slot, which is cached then, and the write.
+pub fn keep_only(
+    r: Editor,
+    plens: &mut [u64],
+    paths: &mut [u8],
+    tlens: &mut [u64],
+    trees: &mut [u8],
+    width: usize,
+    slot: usize,
+) -> Editor
+    requires { ⌜ Laid width r (now plens) (now paths) (now tlens) (now trees) × (width ≤ 64) × Used r slot ⌝ }
+    ensures editor { λ q. ⌜ ((order : List ℕ) → editorOf width q (now (plens .exit)) (now (paths .exit)) (now (tlens .exit)) (now (trees .exit)) order ≡ record { cached = heldAt width (now (plens .entry)) (now (paths .entry)) (now (tlens .entry)) (now (trees .entry)) slot ∷ []; writing = none }) ⌝ }
+    ensures ordered { λ q. ⌜ ((order : List ℕ) → length order ≡ 64 → Ordered q order) ⌝ }
+    ensures laid { λ q. ⌜ Laid width q (now (plens .exit)) (now (paths .exit)) (now (tlens .exit)) (now (trees .exit)) ⌝ }
+    ensures others { λ q. ⌜ Used q slot × SameTree (now (plens .entry)) (now (paths .entry)) (now (tlens .entry)) (now (trees .entry)) (now (plens .exit)) (now (paths .exit)) (now (tlens .exit)) (now (trees .exit)) slot ⌝ }
+    ensures same { λ q. ⌜ (q .hidden ≡ q .free) × (q .«open» ≡ 0) ⌝ }
+{
+    let np = r.paths;
+    let nt = r.trees;
+    let es = names::compact::count(runs::runs::run(tlens, trees, nt, slot), width);
+    let p = keep_run(plens, paths, np, slot);
+    let t = keep_run(tlens, trees, nt, slot);
+    let ns = t - es * (2 + width);
+    let f = runs::free::take(0xffff_ffff_ffff_ffff, slot);
+    Editor {
+        free: f,
+        hidden: f,
+        paths: p,
+        trees: t,
+        entries: es,
+        names: ns,
+        open: 0,
+        aside: 0,
+        stacked: 0,
+        asked: 0,
     }
 }

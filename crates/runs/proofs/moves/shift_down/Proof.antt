@@ -1,56 +1,77 @@
--- `runs::moves::shift_down` meets its contract: s[at + n..k] stands n lower. Assumes nothing.
-use mathlib.Core.Path.{_≡_, ap, _∙_}
-use Prim.Native.Nat.{ℕ, _+_, _-_, _≤_}
+-- `runs::moves::shift_down` meets its contract: the bytes before k stand n lower. Assumes nothing.
+use borrow.Author.Needs.{needs}
 use native.Mathlib.Omega.{arith}
-use lib.ListN.{length, length-set}
-use Rattle.names.specs.Splice.{splice}
-use Rattle.runs.specs.Moves.{part}
-use Rattle.runs.proofs.MoveLaws.{down-none, down-step}
+use mathlib.Core.Path.{refl}
+use Prim.Native.Nat.{_+_, _-_}
+use Rattle.runs.proofs.MoveLaws.{Lowered, lower-none, lower, lowered, lower-one, stays}
 use Rattle.runs.proofs.moves.shift_down.Statement.{statement}
 use Rattle.runs.proofs.moves.shift_down.Tie as tie
 
 abbrev Inv-loop : tie.InvT-loop
-Inv-loop s₀ at used n k₀ s k = (at + n ≤ k) × (k ≤ used) × (length s ≡ length s₀) × (s ≡ splice s₀ at (part s₀ (at + n) (k - (at + n))))
+Inv-loop s₀ at used n k₀ s k = Lowered s₀ (k₀ - n) k₀ used s k
 
 abbrev μ-loop : tie.MeasureT-loop
 μ-loop s₀ at used n k₀ s k = used - k
 
-add-k : tie.Need-add-k Inv-loop μ-loop
-add-k c = omega arith
+returns : tie.Need-returns Inv-loop μ-loop
+returns c =
+    let a = c .before .before .args in
+    stays (a .s .now) (a .at) (a .at + a .n) (a .used - (a .at + a .n)) (omega (arith, c .if1 .taken)) (omega arith)
+
+eights-down-requires : tie.Need-eights-down-requires Inv-loop μ-loop
+eights-down-requires c κs = search needs
 
 loop-holds : tie.Need-loop-holds Inv-loop μ-loop
-loop-holds c = (omega arith, omega arith, omega arith, down-none (c .args .s .now) (c .args .at) (c .args .at + c .args .n))
+loop-holds c =
+    let e = c .before .before .eights-down in
+    lower-none (e .last .0) (e .result - c .before .before .before .before .before .before .args .n) (e .result) _ (omega arith) (e .ensures .1)
 
 slice-read-s : tie.Need-slice-read-s Inv-loop μ-loop
-slice-read-s c = omega arith
+slice-read-s c = search needs
 
 sub-s : tie.Need-sub-s Inv-loop μ-loop
-sub-s c = omega arith
+sub-s c = search needs
 
 slice-write-s : tie.Need-slice-write-s Inv-loop μ-loop
-slice-write-s c = omega arith
+slice-write-s c = search needs
 
-add-k-2 : tie.Need-add-k-2 Inv-loop μ-loop
-add-k-2 c = omega arith
+add-k : tie.Need-add-k Inv-loop μ-loop
+add-k c = search needs
 
 loop-less : tie.Need-loop-less Inv-loop μ-loop
-loop-less c = omega arith
+loop-less c = search needs
 
 loop-again : tie.Need-loop-again Inv-loop μ-loop
 loop-again c =
     let l = c .before .before in
-    let a = l .before .args in
-    (omega arith, omega arith, simp length-set (omega arith), down-step (a .s .now) (a .at) (a .n) (l .loop .s) (l .loop .k) (omega arith) (omega arith) (l .loop .inv .3))
+    lower-one (l .loop .inv) (omega arith) (l .loop .k - c .before .before .before .before .before .before .before .before .before .args .n) (omega (arith, c .before .before .before .before .before .eights-down .ensures .0, l .loop .inv .low)) (c .before .loop-test .taken)
 
 same-length : tie.Need-same-length Inv-loop μ-loop
-same-length c = omega arith
+same-length c = search needs
 
-returns : tie.Need-returns Inv-loop μ-loop
-returns c =
-    let a = c .before .before .args in
-    let e : c .before .loop .k ≡ a .used = omega arith in
-    c .before .loop .inv .3 ∙ ap (λ (k : ℕ). splice (a .s .now) (a .at) (part (a .s .now) (a .at + a .n) (k - (a .at + a .n)))) e
+returns-2 : tie.Need-returns-2 Inv-loop μ-loop
+returns-2 c =
+    let l = c .before in
+    let e = c .before .before .before .before .eights-down in
+    let s = c .before .before .before .before .before .before .before .before in
+    let a = s .args in
+    let w : Lowered (a .s .now) (a .at) (a .at + a .n) (a .used) (e .last .0) (e .result) = record { down = omega arith; low = e .ensures .0; high = e .ensures .1; long = e .kept .0; moved = e .ensures .2 } in
+    lowered (lower w (s .pre .1) (e .result - a .n) (a .used - e .result) (omega (arith, e .ensures .0)) (omega (arith, e .ensures .1)) _ _ refl (lowered (l .loop .inv) (omega arith) (c .loop-test .left))) (s .pre .1) (omega arith)
 
 pub shift-down-spec : {M : Type 1} → statement M
 shift-down-spec =
-    tie.close (tie.spec Inv-loop μ-loop add-k loop-holds slice-read-s sub-s slice-write-s add-k-2 loop-less loop-again same-length returns)
+    tie.close
+    (tie.spec
+    Inv-loop
+    μ-loop
+    returns
+    eights-down-requires
+    loop-holds
+    slice-read-s
+    sub-s
+    slice-write-s
+    add-k
+    loop-less
+    loop-again
+    same-length
+    returns-2)

@@ -1,53 +1,76 @@
--- `runs::moves::shift_up` meets its contract: s[k..used] stands n higher. Assumes nothing.
-use mathlib.Core.Path.{_≡_, ap, _∙_}
-use Prim.Native.Nat.{ℕ, _+_, _-_, _≤_}
+-- `runs::moves::shift_up` meets its contract: the bytes from k on stand n higher. Assumes nothing.
+use borrow.Author.Needs.{needs}
 use native.Mathlib.Omega.{arith}
-use lib.ListN.{length, length-set}
-use Rattle.names.specs.Splice.{splice}
-use Rattle.runs.specs.Moves.{part}
-use Rattle.runs.proofs.MoveLaws.{up-none, up-step}
+use mathlib.Core.Path.{refl}
+use Prim.Native.Nat.{_+_, _-_}
+use Rattle.runs.proofs.MoveLaws.{Raised, raise-none, raise, raised, raise-one, stays}
 use Rattle.runs.proofs.moves.shift_up.Statement.{statement}
 use Rattle.runs.proofs.moves.shift_up.Tie as tie
 
 abbrev Inv-loop : tie.InvT-loop
-Inv-loop s₀ at used n k₀ s k = (at ≤ k) × (k ≤ used) × (length s ≡ length s₀) × (s ≡ splice s₀ (k + n) (part s₀ k (used - k)))
+Inv-loop s₀ at used n k₀ s k = Raised s₀ at k₀ n s k
 
 abbrev μ-loop : tie.MeasureT-loop
 μ-loop s₀ at used n k₀ s k = k
 
+returns : tie.Need-returns Inv-loop μ-loop
+returns c =
+    let a = c .before .before .args in
+    stays (a .s .now) (a .at + a .n) (a .at) (a .used - a .at) (omega (arith, c .if1 .taken)) (omega arith)
+
+eights-up-requires : tie.Need-eights-up-requires Inv-loop μ-loop
+eights-up-requires c κs = search needs
+
 loop-holds : tie.Need-loop-holds Inv-loop μ-loop
-loop-holds c = (omega arith, omega arith, omega arith, up-none (c .args .s .now) (c .args .used) (c .args .n))
+loop-holds c =
+    let e = c .before .before .eights-up in
+    raise-none (e .last .0) _ (e .result) _ (e .ensures .0)
 
 sub-k : tie.Need-sub-k Inv-loop μ-loop
-sub-k c = omega arith
+sub-k c = search needs
 
 slice-read-s : tie.Need-slice-read-s Inv-loop μ-loop
-slice-read-s c = omega arith
+slice-read-s c = search needs
 
 add-s : tie.Need-add-s Inv-loop μ-loop
-add-s c = omega arith
+add-s c = search needs
 
 slice-write-s : tie.Need-slice-write-s Inv-loop μ-loop
-slice-write-s c = omega arith
+slice-write-s c = search needs
 
 loop-less : tie.Need-loop-less Inv-loop μ-loop
-loop-less c = omega arith
+loop-less c = search needs
 
 loop-again : tie.Need-loop-again Inv-loop μ-loop
 loop-again c =
     let l = c .before .before in
-    let a = l .before .args in
-    (omega arith, omega arith, simp length-set (omega arith), up-step (a .s .now) (a .used) (a .n) (l .loop .s) (l .loop .k) (omega arith) (omega arith) (omega arith) (l .loop .inv .3))
+    raise-one (l .loop .inv) (omega arith) (c .before .loop-test .taken)
 
 same-length : tie.Need-same-length Inv-loop μ-loop
-same-length c = omega arith
+same-length c = search needs
 
-returns : tie.Need-returns Inv-loop μ-loop
-returns c =
-    let a = c .before .before .args in
-    let e : c .before .loop .k ≡ a .at = omega arith in
-    c .before .loop .inv .3 ∙ ap (λ (k : ℕ). splice (a .s .now) (k + a .n) (part (a .s .now) k (a .used - k))) e
+returns-2 : tie.Need-returns-2 Inv-loop μ-loop
+returns-2 c =
+    let l = c .before in
+    let e = c .before .before .before .before .eights-up in
+    let s = c .before .before .before .before .before .before .before .before in
+    let w : Raised (s .args .s .now) (s .args .at) (s .args .used) (s .args .n) (e .last .0) (e .result) = record { low = e .ensures .0; high = e .ensures .1; long = e .kept .0; moved = e .ensures .2 } in
+    raised (raise w (s .pre .1) (s .args .at) (e .result - s .args .at) (omega arith) (omega (arith, e .ensures .0)) _ _ refl (raised (l .loop .inv) (omega arith) (c .loop-test .left))) (s .pre .1) (omega arith)
 
 pub shift-up-spec : {M : Type 1} → statement M
 shift-up-spec =
-    tie.close (tie.spec Inv-loop μ-loop loop-holds sub-k slice-read-s add-s slice-write-s loop-less loop-again same-length returns)
+    tie.close
+    (tie.spec
+    Inv-loop
+    μ-loop
+    returns
+    eights-up-requires
+    loop-holds
+    sub-k
+    slice-read-s
+    add-s
+    slice-write-s
+    loop-less
+    loop-again
+    same-length
+    returns-2)

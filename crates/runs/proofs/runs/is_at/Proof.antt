@@ -1,43 +1,64 @@
--- `runs::runs::is_at` meets its contract: paths of other lengths differ, and a free slot is at no path. Assumes nothing.
+-- `runs::runs::is_at` meets its contract: it tests the path, and then the slot's digit. Assumes nothing.
 use borrow.Author.Needs.{needs}
-use mathlib.Core.Path.{ap, _∙_, sym}
-use mathlib.Core.Bool.{Bool, not, _&&_}
+use borrow.Author.Tests.{not-true, not-false}
+use mathlib.Core.Path.{_≡_, refl, ap, ap₂, _∙_, sym}
+use mathlib.Core.Bool.{Bool, true, false, not, _&&_}
+use mathlib.Core.List.{List}
+use Prim.Native.Nat.{ℕ, _+_, _-_}
+use native.Mathlib.Omega.{arith}
 use lib.Dec.{eqb}
 use lib.ListN.{getD}
 use Rattle.model.specs.Bytes.{same}
 use Rattle.runs.specs.Digits.{digits}
+use Rattle.runs.specs.Find.{hit}
 use Rattle.runs.specs.Moves.{part}
-use Rattle.runs.proofs.MoveLaws.{length-part}
-use Rattle.runs.proofs.FindLaws.{same-longer, and-false}
+use Rattle.runs.proofs.FindLaws.{and-false}
 use Rattle.runs.proofs.runs.is_at.Statement.{statement}
 use Rattle.runs.proofs.runs.is_at.Tie as tie
 
+module _ (bytes path : List ℕ) (a n d : ℕ) (s : Bool) (e : s ≡ same path (part bytes a (a + n - a))) where
+  tested : s ≡ same path (part bytes a n)
+  tested =
+      let m : a + n - a ≡ n = omega arith in
+      e ∙ ap (λ (x : ℕ). same path (part bytes a x)) m
+
+  other : not s ≡ true → false ≡ hit d (part bytes a n) path
+  other t = and-false (not (eqb d 1)) (same path (part bytes a n)) (sym tested ∙ not-true s t)
+
+  alike : (f : Bool) → not s ≡ false → f ≡ eqb d 1 → not f ≡ hit d (part bytes a n) path
+  alike f t g = and-so (not f) ∙ ap₂ (λ (x y : Bool). not x && y) g (sym (not-false s t) ∙ tested)
+    where
+      and-so : (b : Bool) → b ≡ (b && true)
+      and-so true = refl
+      and-so false = refl
+
+add-e : tie.Need-add-e
+add-e c = search needs
+
+sub-same-bytes : tie.Need-sub-same-bytes
+sub-same-bytes c = search needs
+
+part-same-bytes-start : tie.Need-part-same-bytes-start
+part-same-bytes-start c = search needs
+
+part-same-bytes-end : tie.Need-part-same-bytes-end
+part-same-bytes-end c = search needs
+
+same-bytes-requires : tie.Need-same-bytes-requires
+same-bytes-requires c κs = search needs
+
 returns : tie.Need-returns
 returns c =
-    let s = c .before .before .before in
-    let a = s .args in
-    and-false (not (eqb (getD (digits 64 (a .free)) (a .k) 0) 1)) _
-    (same-longer (a .path .now) (part (a .bytes .now) (a .a) (a .n)) (a .n) (length-part (a .bytes .now) (a .a) (a .n) (s .pre .1)) (λ e. c .if1 .taken e))
+    let a = c .before .before .before .before .before .args in
+    other (a .bytes .now) (a .path .now) (a .a) (a .n) (getD (digits 64 (a .free)) (a .k) 0) _ (c .before .same-bytes .ensures) (c .if1 .taken)
 
 is-free-requires : tie.Need-is-free-requires
 is-free-requires c κs = search needs
 
 returns-2 : tie.Need-returns-2
 returns-2 c =
-    let a = c .before .before .before .before .before .args in
-    ap (λ (x : Bool). not x && same (a .path .now) (part (a .bytes .now) (a .a) (a .n))) (sym (c .if2 .taken) ∙ c .before .is-free .ensures)
-
-between-requires : tie.Need-between-requires
-between-requires c κs = search needs
-
-same-bytes-requires : tie.Need-same-bytes-requires
-same-bytes-requires c κs = search needs
-
-returns-3 : tie.Need-returns-3
-returns-3 c =
-    let a = c .before .before .before .before .before .before .before .args in
-    c .same-bytes .ensures ∙ ap (same (a .path .now)) (c .before .between .ensures)
-    ∙ ap (λ (x : Bool). not x && same (a .path .now) (part (a .bytes .now) (a .a) (a .n))) (sym (c .before .before .if2 .left) ∙ c .before .before .before .is-free .ensures)
+    let a = c .before .before .before .before .before .before .args in
+    alike (a .bytes .now) (a .path .now) (a .a) (a .n) (getD (digits 64 (a .free)) (a .k) 0) _ (c .before .before .same-bytes .ensures) _ (c .before .if1 .left) (c .is-free .ensures)
 
 pub is-at-spec : {M : Type 1} → statement M
-is-at-spec = tie.close (tie.spec returns is-free-requires returns-2 between-requires same-bytes-requires returns-3)
+is-at-spec = tie.close (tie.spec add-e sub-same-bytes part-same-bytes-start part-same-bytes-end same-bytes-requires returns is-free-requires returns-2)
