@@ -1,0 +1,2 @@
+-- Definitions that the contracts of `store_c` cite.
+pub mod Record
