@@ -1,0 +1,4 @@
+-- The laws that the proofs of several functions share.
+pub mod DownLaws
+pub mod TurnLaws
+pub mod WalkLaws

@@ -1,0 +1,2 @@
+-- Definitions that the contracts of `change` cite.
+pub mod Steps

@@ -1,0 +1,2 @@
+// The second pass of an edit: its steps carried out, each of which fits.
+pub mod pass;
