@@ -11,6 +11,8 @@ use Rattle.model.specs.Table.{Table}
 use Rattle.model.specs.Editor.{at, Cache, _↝_, treeAt, fits}
 use Rattle.model.specs.Formats.{sha1}
 use Rattle.model.specs.Walk.{Edit, enter, Walked, ended, below, turned, turn, pickWalked}
+use Rattle.model.specs.Editor.{Editor as Model}
+use Rattle.model.specs.Calls.{Answer as Answered}
 use Rattle.slots.specs.declared.Editor.{Editor}
 use Rattle.slots.specs.View.{viewOf, Laid, Used, pathOf, SameWrite}
 use Rattle.edits.specs.Answers.{codeNumber}
@@ -83,3 +85,14 @@ pub record WalkedAs (r₀ : Editor) (w : Walked) (a : Answer) (plens paths tlens
   pub code : codeNumber (a .code) ≡ w .code
   pub now : viewOf 20 (a .ed) plens paths tlens trees ≡ w .now
   pub stand : Standing r₀ (a .ed) plens paths tlens trees
+
+-- an editor with these trees cached, and no write open
+abbrev pub editorAt : Cache → Model
+editorAt c = record { cached = c; writing = none }
+
+-- the call was settled as the model says, and number 5 left every byte as it was
+pub record SettledAs (r₀ : Editor) (plens₀ paths₀ tlens₀ trees₀ : List ℕ) (m : Answered) (a : Answer) (plens paths tlens trees : List ℕ) : Type 0 where
+  pub code : codeNumber (a .code) ≡ m .code
+  pub now : editorAt (viewOf 20 (a .ed) plens paths tlens trees) ≡ m .editor
+  pub stand : Standing r₀ (a .ed) plens paths tlens trees
+  pub same : codeNumber (a .code) ≡ 5 → (a .ed ≡ r₀) × (plens ≡ plens₀) × (paths ≡ paths₀) × (tlens ≡ tlens₀) × (trees ≡ trees₀)

@@ -8,12 +8,14 @@ ghost use Rattle.model.specs.Paths.{components, full as fullPath, refused};
 ghost use Rattle.model.specs.Formats.{sha1};
 ghost use Rattle.model.specs.Table.{goodTable};
 ghost use Rattle.model.specs.Walk.{walk as walked};
+ghost use Rattle.model.specs.Calls.{settled};
+ghost use Rattle.model.specs.Valid.{valid};
 ghost use Rattle.names.specs.Compact.{Run, unpack};
 ghost use Rattle.slots.specs.View.{viewOf, Laid, Used, pathOf, treeOf};
 ghost use Rattle.entries.specs.Entries.{Edited};
 ghost use Rattle.edits.specs.Edits.{asEdit, changed, looks, partsOf, seenAs, wantedBy};
 ghost use Rattle.edits.specs.Objects.{tableOf};
-ghost use Rattle.change.specs.Steps.{PutFits, LandFits, Descended, downAs, stepAs, Fitting, SteppedAs, WalkedAs};
+ghost use Rattle.change.specs.Steps.{PutFits, LandFits, Descended, downAs, stepAs, Fitting, SteppedAs, WalkedAs, editorAt, SettledAs};
 use edits::code::Code;
 use edits::edit::Edit;
 use edits::edit::Seen;
@@ -300,4 +302,66 @@ pub fn walk(
         let rest = names::path::tail(p, k);
         p = rest;
     }
+}
+
+// Both passes: the walk of an edit, if each of its steps keeps the limits; else nothing is changed.
+pub fn settle(
+    ed: Editor,
+    plens: &mut [u64],
+    paths: &mut [u8],
+    tlens: &mut [u64],
+    trees: &mut [u8],
+    ids: &[u8],
+    ends: &[u32],
+    raws: &[u8],
+    full: &[u8],
+    path: &[u8],
+    edit: Edit,
+    deep: bool,
+    slot: usize,
+) -> Answer
+    requires { ⌜ Laid 20 ed (now plens) (now paths) (now tlens) (now trees) × (ed .hidden ≡ ed .free) × Used ed slot × (goodTable 20 (tableOf (now ids) (now ends) (now raws)) ≡ true)
+        × (now full ≡ fullPath (pathOf (now plens) (now paths) slot) (now path)) × (refused (pathOf (now plens) (now paths) slot) (now path) ≡ false)
+        × (valid sha1 (editorAt (viewOf 20 ed (now plens) (now paths) (now tlens) (now trees))) ≡ true) ⌝ }
+    ensures { λ a. ⌜ SettledAs ed (now (plens .entry)) (now (paths .entry)) (now (tlens .entry)) (now (trees .entry))
+        (settled (editorAt (viewOf 20 ed (now (plens .entry)) (now (paths .entry)) (now (tlens .entry)) (now (trees .entry))))
+        (walked sha1 (tableOf (now (ids .entry)) (now (ends .entry)) (now (raws .entry))) (asEdit edit) «deep» (components (now (path .entry))) (pathOf (now (plens .entry)) (now (paths .entry)) slot)
+        (viewOf 20 ed (now (plens .entry)) (now (paths .entry)) (now (tlens .entry)) (now (trees .entry))))) a (now (plens .exit)) (now (paths .exit)) (now (tlens .exit)) (now (trees .exit)) ⌝ }
+{
+    let kept = walk::measure::measure(
+        ed,
+        plens,
+        paths,
+        tlens,
+        trees,
+        ids,
+        ends,
+        raws,
+        full,
+        path,
+        edit,
+        deep,
+        slot,
+    );
+    if !kept {
+        return Answer {
+            code: Code::NoRoom,
+            ed,
+        };
+    }
+    walk(
+        ed,
+        plens,
+        paths,
+        tlens,
+        trees,
+        ids,
+        ends,
+        raws,
+        full,
+        path,
+        edit,
+        deep,
+        slot,
+    )
 }
