@@ -1,0 +1,2 @@
+-- What the functions of the store layer leave.
+pub mod Kept
