@@ -9,10 +9,10 @@ use Rattle.model.specs.Map.{put}
 use Rattle.model.specs.Tree.{Tree, entryOf, null}
 use Rattle.model.specs.Paths.{join}
 use Rattle.model.specs.Table.{Table}
-use Rattle.model.specs.Editor.{Format, at, Cache, treeAt}
+use Rattle.model.specs.Editor.{_↝_, Format, at, Cache, treeAt}
 use Rattle.model.specs.Walk as walk
 use Rattle.model.specs.Measure.{Counts, within, seen}
-use Rattle.model.proofs.Basics.{no-way, _↝_}
+use Rattle.model.proofs.Basics.{no-way}
 use Rattle.model.proofs.MapLaws.{put-there}
 use Rattle.model.proofs.FirstPass as first
 use Rattle.model.proofs.SecondPass as second
