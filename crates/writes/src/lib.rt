@@ -1,0 +1,2 @@
+// The steps of a write between two requests: the next tree is taken, set aside or finished.
+pub mod scan;
