@@ -1,2 +1,3 @@
 -- The laws that the proofs of several functions share.
 pub mod ScanLaws
+pub mod TurnLaws

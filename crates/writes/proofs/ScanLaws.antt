@@ -26,7 +26,7 @@ use Rattle.runs.specs.declared.runs.Found.{Found}
 use Rattle.runs.specs.declared.runs.Found.the-variants.{At, Nothing}
 use Rattle.slots.specs.View.{heldIn, Laid, SlotIs, heldAt, cachedOf}
 use Rattle.slots.specs.declared.Editor.{Editor}
-use Rattle.taken.specs.Taken.{goingOf, Between, Cached}
+use Rattle.taken.specs.Taken.{goingOf, Between, Cached, SameSlots}
 use Rattle.taken.proofs.Steps.{laid-same}
 use Rattle.edits.specs.Fronts.{lead}
 use Rattle.writes.specs.Writes.{kidOn, scannedOn, Stacks}
@@ -73,19 +73,18 @@ scan-entry p e t g = scan-kid p t (cond (isTree (e .mode)) (find at (join p (e .
 pub stacks-none : (r : Editor) → Stacks r r
 stacks-none r = record { slots = record { free = refl; paths = refl; trees = refl; entries = refl; names = refl }; «open» = refl; aside = refl; asked = refl }
 
+pub slots-more : {r q s : Editor} → SameSlots r q → SameSlots q s → SameSlots r s
+slots-more a b =
+    record {
+      free = b .free ∙ a .free;
+      paths = b .paths ∙ a .paths;
+      trees = b .trees ∙ a .trees;
+      entries = b .entries ∙ a .entries;
+      names = b .names ∙ a .names;
+    }
+
 pub stacks-more : {r q s : Editor} → Stacks r q → Stacks q s → Stacks r s
-stacks-more a b = record {
-  slots = record {
-    free = b .slots .free ∙ a .slots .free;
-    paths = b .slots .paths ∙ a .slots .paths;
-    trees = b .slots .trees ∙ a .slots .trees;
-    entries = b .slots .entries ∙ a .slots .entries;
-    names = b .slots .names ∙ a .slots .names;
-  };
-  «open» = b .«open» ∙ a .«open»;
-  aside = b .aside ∙ a .aside;
-  asked = b .asked ∙ a .asked;
-}
+stacks-more a b = record { slots = slots-more (a .slots) (b .slots); «open» = b .«open» ∙ a .«open»; aside = b .aside ∙ a .aside; asked = b .asked ∙ a .asked }
 
 -- ---- the loop
 

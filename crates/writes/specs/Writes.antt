@@ -1,10 +1,13 @@
 -- The steps of a write between two requests, each as a change of the model's Going. Assumes nothing.
 use mathlib.Core.Path.{_≡_}
 use mathlib.Core.Option.{Option, none, some}
-use mathlib.Core.List.{_++_, reverse}
+use mathlib.Core.Bool.{Bool, true, false}
+use mathlib.Core.List.{List, [], _∷_, _++_, reverse}
+use Prim.Native.Nat.{ℕ, _≤_}
+use lib.ListN.{length}
 use Rattle.model.specs.Bytes.{Bytes}
 use Rattle.model.specs.Tree.{Tree}
-use Rattle.model.specs.Editor.{Held}
+use Rattle.model.specs.Editor.{Held, Cache}
 use Rattle.model.specs.Write.{Going, scanned}
 use Rattle.slots.specs.declared.Editor.{Editor}
 use Rattle.taken.specs.Taken.{stackedOn, takenOff, SameSlots}
@@ -24,3 +27,34 @@ pub record Stacks (r q : Editor) : Type 0 where
   pub «open» : q .«open» ≡ r .«open»
   pub aside : q .aside ≡ r .aside
   pub asked : q .asked ≡ r .asked
+
+-- ---- one turn
+
+-- a path is short enough for a tree to be cached there
+abbrev pub Brief : Held → Type 0
+Brief h = length (h .path) ≤ 1024
+
+-- what a turn comes to: the tree that was taken, whether it is to be finished, and the write without it
+pub record Turn : Type 0 where
+  pub finish : Bool
+  pub hand : Held
+  pub rest : Going
+
+-- the top of the stack, with the cached trees under it and the cache without them: with any it is set aside, else it is finished
+abbrev pub topTurn : Held → Going → List Held → Cache → Turn
+topTurn h g [] left = record { finish = true; hand = h; rest = g }
+topTurn h g (x ∷ xs) left = record { finish = false; hand = h; rest = record { cache = left; stack = reverse (x ∷ xs) ++ g .stack; kept = h ∷ g .kept } }
+
+-- the top of the stack is taken; when the stack is empty, the latest set aside is finished
+abbrev pub turnOf : List Held → List Held → Cache → Turn
+turnOf [] [] c = record { finish = false; hand = record { path = []; held = [] }; rest = record { cache = c; stack = []; kept = [] } }
+turnOf [] (h ∷ hs) c = record { finish = true; hand = h; rest = record { cache = c; stack = []; kept = hs } }
+turnOf (h ∷ s) k c = topTurn h (record { cache = c; stack = s; kept = k }) ((scanned (h .path) (h .held) c) .kids) ((scanned (h .path) (h .held) c) .left)
+
+abbrev pub turned : Going → Turn
+turned g = turnOf (g .stack) (g .kept) (g .cache)
+
+-- the slot in hand after a turn
+abbrev pub handOf : Bool → ℕ → List ℕ
+handOf true k = k ∷ []
+handOf false k = []

@@ -1,2 +1,3 @@
 // The steps of a write between two requests: the next tree is taken, set aside or finished.
+pub mod pick;
 pub mod scan;
