@@ -1,3 +1,5 @@
 -- The laws that the proofs of several functions share.
+pub mod LinkLaws
+pub mod LinkRoom
 pub mod ScanLaws
 pub mod TurnLaws

@@ -8,9 +8,11 @@ use lib.ListN.{length}
 use Rattle.model.specs.Bytes.{Bytes}
 use Rattle.model.specs.Tree.{Tree}
 use Rattle.model.specs.Editor.{Held, Cache}
-use Rattle.model.specs.Write.{Going, scanned}
+use Rattle.model.specs.Write.{Going, scanned, unlinked, linked}
+use Rattle.model.specs.Valid.{hasParent}
+use Rattle.slots.specs.View.{pathOf, asideOf}
 use Rattle.slots.specs.declared.Editor.{Editor}
-use Rattle.taken.specs.Taken.{stackedOn, takenOff, SameSlots}
+use Rattle.taken.specs.Taken.{stackedOn, takenOff, SameSlots, Between}
 
 -- a cached tree that was found is taken off the cache and stacked
 abbrev pub kidOn : Option Held → Going → Going
@@ -58,3 +60,16 @@ turned g = turnOf (g .stack) (g .kept) (g .cache)
 abbrev pub handOf : Bool → ℕ → List ℕ
 handOf true k = k ∷ []
 handOf false k = []
+
+-- ---- the entry of a finished tree in its parent
+
+abbrev pub unlinkedOn : Bytes → Going → Going
+unlinkedOn p g = record { cache = g .cache; stack = g .stack; kept = unlinked p (g .kept) }
+
+abbrev pub linkedOn : Bytes → Bytes → Going → Going
+linkedOn i p g = record { cache = g .cache; stack = g .stack; kept = linked i p (g .kept) }
+
+-- the tree in the slot k is in hand, and its parent is set aside
+pub record Child (w : ℕ) (r : Editor) (plens paths tlens trees order : List ℕ) (k : ℕ) : Type 0 where
+  pub between : Between r order (k ∷ [])
+  pub parent : hasParent (pathOf plens paths k) (asideOf w r plens paths tlens trees order) ≡ true
