@@ -1,14 +1,15 @@
 -- The steps of a write between two requests, each as a change of the model's Going. Assumes nothing.
 use mathlib.Core.Path.{_≡_}
 use mathlib.Core.Option.{Option, none, some}
-use mathlib.Core.Bool.{Bool, true, false}
+use mathlib.Core.Bool.{Bool, true, false, not, _&&_, cond}
 use mathlib.Core.List.{List, [], _∷_, _++_, reverse}
 use Prim.Native.Nat.{ℕ, _≤_}
 use lib.ListN.{length}
-use Rattle.model.specs.Bytes.{Bytes}
-use Rattle.model.specs.Tree.{Tree}
+use Rattle.model.specs.Bytes.{Bytes, isNil}
+use Rattle.model.specs.Tree.{Tree, withoutId}
 use Rattle.model.specs.Editor.{Held, Cache}
 use Rattle.model.specs.Write.{Going, scanned, unlinked, linked}
+use Rattle.model.specs.Order.{All}
 use Rattle.model.specs.Valid.{hasParent}
 use Rattle.slots.specs.View.{pathOf, asideOf}
 use Rattle.slots.specs.declared.Editor.{Editor}
@@ -73,3 +74,37 @@ linkedOn i p g = record { cache = g .cache; stack = g .stack; kept = linked i p 
 pub record Child (w : ℕ) (r : Editor) (plens paths tlens trees order : List ℕ) (k : ℕ) : Type 0 where
   pub between : Between r order (k ∷ [])
   pub parent : hasParent (pathOf plens paths k) (asideOf w r plens paths tlens trees order) ≡ true
+
+-- ---- a turn to its end
+
+-- what a turn leaves: the write goes on, or this tree is requested
+pub data Step : Type 0 where
+  goes : Going → Step
+  asks : Held → Going → Step
+
+abbrev pub stepOf : Bool → Held → Going → Step
+stepOf true h g = asks h g
+stepOf false h g = goes g
+
+-- the tree in hand without its null-id entries is requested, unless it is empty and not the start tree
+abbrev pub finishedAs : Bytes → Held → Going → Step
+finishedAs nil h g = cond (isNil (withoutId nil (h .held)) && not (isNil (g .kept))) (goes (unlinkedOn (h .path) g)) (asks (record { path = h .path; held = withoutId nil (h .held) }) g)
+
+abbrev pub ended : Bytes → Bool → Held → Going → Step
+ended nil true h g = finishedAs nil h g
+ended nil false h g = goes g
+
+-- one turn of the model's `onward`
+abbrev pub nextOf : Bytes → Going → Step
+nextOf nil g = ended nil ((turned g) .finish) ((turned g) .hand) ((turned g) .rest)
+
+-- the tree in the slot k is in hand, and its parent is set aside if it is not the start tree
+pub record Hand (w : ℕ) (r : Editor) (plens paths tlens trees order : List ℕ) (k : ℕ) : Type 0 where
+  pub between : Between r order (k ∷ [])
+  pub parent : isNil (asideOf w r plens paths tlens trees order) ≡ false → hasParent (pathOf plens paths k) (asideOf w r plens paths tlens trees order) ≡ true
+
+-- what a turn asks: a tree is stacked or set aside, the stacked ones' paths are short, and the tree that is to be finished has its parent set aside
+pub record Ready (g : Going) : Type 0 where
+  pub taken : (isNil (g .stack) && isNil (g .kept)) ≡ false
+  pub brief : All Brief (g .stack)
+  pub parent : (turned g) .finish ≡ true → isNil ((turned g) .rest .kept) ≡ false → hasParent ((turned g) .hand .path) ((turned g) .rest .kept) ≡ true

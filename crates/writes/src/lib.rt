@@ -2,3 +2,4 @@
 pub mod links;
 pub mod pick;
 pub mod scan;
+pub mod turn;
