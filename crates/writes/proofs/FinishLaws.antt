@@ -1,19 +1,19 @@
 -- What finishing the tree in hand makes of the write: an empty run is an empty tree, and the other trees are as they were. Assumes nothing.
-use mathlib.Core.Path.{_≡_, refl, sym, ap, ap₂, _∙_, subst}
+use mathlib.Core.Path.{_≡_, refl, sym, ap, ap₂, _∙_}
 use mathlib.Core.Bool.{Bool, true, false, not, _&&_, cond}
 use mathlib.Core.List.{List, [], _∷_}
-use Prim.Native.Nat.{ℕ, zero, suc, _+_, _*_, _<_}
+use Prim.Native.Nat.{ℕ, suc, _+_, _*_, _<_}
 use native.Mathlib.Omega.{arith}
 use native.Mathlib.Nat.{suc-mul}
 use lib.Dec.{eqb}
-use borrow.Author.Tests.{eqb-true, eqb-false}
+use borrow.Author.Tests.{eqb-true}
 use lib.ListN.{length, getD}
-use Rattle.model.specs.Bytes.{Bytes, isNil}
-use Rattle.model.specs.Tree.{Tree, Entry, nameBytes, withoutId, null}
+use Rattle.model.specs.Bytes.{isNil}
+use Rattle.model.specs.Tree.{Tree, nameBytes, withoutId, null}
 use Rattle.model.specs.Editor.{Held}
 use Rattle.model.specs.Valid.{hasParent}
 use Rattle.model.specs.Write.{Going}
-use Rattle.model.proofs.Basics.{no-way, and-left, and-right, not-true}
+use Rattle.model.proofs.Basics.{no-way, and-right, not-true}
 use Rattle.runs.specs.Digits.{digits}
 use Rattle.slots.specs.View.{Laid, Used, pathOf, treeOf, heldAt, asideOf, stackedOf}
 use Rattle.slots.specs.declared.Editor.{Editor}

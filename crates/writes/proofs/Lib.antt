@@ -2,5 +2,6 @@
 pub mod FinishLaws
 pub mod LinkLaws
 pub mod LinkRoom
+pub mod OnwardLaws
 pub mod ScanLaws
 pub mod TurnLaws

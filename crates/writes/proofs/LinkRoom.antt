@@ -1,16 +1,14 @@
 -- An answer never needs room: the parent has a tree entry of the name, so that the new one is as long. Assumes nothing.
 use mathlib.Core.Path.{_≡_, refl, sym, ap, ap₂, _∙_}
-use mathlib.Core.Bool.{Bool, true, _&&_}
+use mathlib.Core.Bool.{true, _&&_}
 use mathlib.Core.Option.{Option, none, some}
-use mathlib.Core.List.{List, [], _∷_}
+use mathlib.Core.List.{[], _∷_}
 use Prim.Native.Nat.{ℕ, _+_, Ordering, Ordering·lt, Ordering·eq, Ordering·gt}
-use native.Mathlib.Omega.{arith}
 use lib.Dec.{leb}
 use lib.ListN.{length}
 use Rattle.model.specs.Bytes.{Bytes, cmp, by}
 use Rattle.model.specs.Map.{find, put}
 use Rattle.model.specs.Tree.{TREE, Entry, Tree, asKind, entryOf, withEntry, goodName, wellFormed, nameBytes}
-use Rattle.model.specs.Paths.{base}
 use Rattle.model.specs.Editor.{Held, at, Cache, entryCount, nameCount, pathCount, fits}
 use Rattle.model.specs.Valid.{isTreeEntry}
 use Rattle.model.proofs.Basics.{no-way, none-some, some-inj}

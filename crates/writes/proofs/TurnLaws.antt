@@ -1,22 +1,22 @@
 -- What a turn makes of the write: which tree is taken, and whether any was stacked above it, shows in the number of those stacked. Assumes nothing.
-use mathlib.Core.Path.{_≡_, refl, sym, ap, _∙_}
-use mathlib.Core.Bool.{Bool, true, false, cond}
+use mathlib.Core.Path.{_≡_, refl, ap, _∙_}
+use mathlib.Core.Bool.{true, false, cond}
 use mathlib.Core.Option.{Option, none, some}
 use mathlib.Core.List.{List, [], _∷_, _++_, map, reverse}
-use Prim.Native.Nat.{ℕ, suc, _+_, _-_, _≤_}
+use Prim.Native.Nat.{ℕ, _+_, _-_}
 use native.Mathlib.Omega.{arith}
 use lib.ListN.{length, take, drop, length-append, length-reverse, length-drop, length-map}
 use lib.Seq.{length-take-le}
 use Rattle.model.specs.Bytes.{Bytes}
 use Rattle.model.specs.Map.{find}
-use Rattle.model.specs.Tree.{isTree, Entry, Tree}
+use Rattle.model.specs.Tree.{isTree, Tree}
 use Rattle.model.specs.Paths.{join}
 use Rattle.model.specs.Editor.{Held, at, Cache}
-use Rattle.model.specs.Write.{Going, Asking, oneKid, scanned, finished, taken, onward}
+use Rattle.model.specs.Write.{Going, oneKid, scanned}
 use Rattle.slots.specs.View.{heldAt, asideOf, stackedOf}
 use Rattle.slots.specs.declared.Editor.{Editor}
 use Rattle.taken.specs.Taken.{keptOn, Between}
-use Rattle.writes.specs.Writes.{scannedOn, Turn, topTurn, turned}
+use Rattle.writes.specs.Writes.{scannedOn, topTurn, turned}
 
 -- ---- how many are stacked and set aside
 

@@ -3,12 +3,12 @@ use mathlib.Core.Path.{_≡_}
 use mathlib.Core.Option.{Option, none, some}
 use mathlib.Core.Bool.{Bool, true, false, not, _&&_, cond}
 use mathlib.Core.List.{List, [], _∷_, _++_, reverse}
-use Prim.Native.Nat.{ℕ, _≤_}
+use Prim.Native.Nat.{ℕ, zero, suc, _≤_}
 use lib.ListN.{length}
 use Rattle.model.specs.Bytes.{Bytes, isNil}
 use Rattle.model.specs.Tree.{Tree, withoutId}
 use Rattle.model.specs.Editor.{Held, Cache}
-use Rattle.model.specs.Write.{Going, scanned, unlinked, linked}
+use Rattle.model.specs.Write.{Going, Asking, scanned, unlinked, linked}
 use Rattle.model.specs.Order.{All}
 use Rattle.model.specs.Valid.{hasParent}
 use Rattle.slots.specs.View.{pathOf, asideOf}
@@ -108,3 +108,18 @@ pub record Ready (g : Going) : Type 0 where
   pub taken : (isNil (g .stack) && isNil (g .kept)) ≡ false
   pub brief : All Brief (g .stack)
   pub parent : (turned g) .finish ≡ true → isNil ((turned g) .rest .kept) ≡ false → hasParent ((turned g) .hand .path) ((turned g) .rest .kept) ≡ true
+
+-- ---- turns up to the next request
+
+-- after a step the write goes on with P, or it is at a request
+abbrev pub StepHas : (Going → Type 0) → Step → Type 0
+StepHas P (goes g) = P g
+StepHas P (asks h g) = Unit {0}
+
+-- each of at most n turns has what it asks, up to a request
+abbrev pub Steady : Bytes → ℕ → Going → Type 0
+Steady nil zero g = ⊥
+Steady nil (suc n) g = Ready g × StepHas (λ x. Steady nil n x) (nextOf nil g)
+
+abbrev pub asksOn : Held → Going → Asking
+asksOn h g = record { rest = g; ask = h }

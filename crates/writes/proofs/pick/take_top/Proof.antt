@@ -1,11 +1,10 @@
 -- `writes::pick::take_top` meets its contract: as many are stacked after the scan as before it where no cached tree lies under the one in hand. Assumes nothing.
-use mathlib.Core.Path.{_≡_, sym, ap, _∙_, subst}
+use mathlib.Core.Path.{sym, ap, _∙_, subst}
 use mathlib.Core.Bool.{false}
 use mathlib.Core.List.{[], _∷_}
-use native.Mathlib.Omega.{arith}
 use Rattle.model.specs.Order.{All}
 use Rattle.model.specs.Write.{Going}
-use Rattle.slots.specs.View.{Laid, heldAt}
+use Rattle.slots.specs.View.{heldAt}
 use Rattle.taken.specs.Taken.{goingOf}
 use Rattle.taken.proofs.Steps.{laid-same}
 use Rattle.writes.specs.Writes.{Brief, turned}

@@ -5,7 +5,7 @@ use lib.ListN.{length, take}
 use Prim.Native.Nat.{ℕ, _+_, _≤_}
 use Rattle.model.specs.Bytes.{Bytes}
 use Rattle.model.specs.Paths.{join}
-use Rattle.names.specs.Compact.{unpack, entryAt}
+use Rattle.names.specs.Compact.{unpack}
 use Rattle.names.specs.Splice.{splice}
 use Rattle.edits.specs.Fronts.{lead}
 use Rattle.edits.proofs.FrontLaws.{name-after, lead-stays}

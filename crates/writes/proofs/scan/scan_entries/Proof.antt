@@ -4,7 +4,6 @@ use mathlib.Core.Path.{_≡_, sym, _∙_, subst}
 use Prim.Native.Nat.{_-_, _≤_}
 use lib.Seq.{length-take-le}
 use lib.ListN.{length, take}
-use borrow.Author.Needs.{needs}
 use Rattle.runs.specs.Runs.{Sound}
 use Rattle.edits.specs.Fronts.{lead}
 use Rattle.names.proofs.CompactLaws.{walk-in, walk-at, walk-more}
