@@ -1,0 +1,2 @@
+-- Definitions that the contracts of `writes` cite.
+pub mod Writes
