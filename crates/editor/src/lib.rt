@@ -2,3 +2,4 @@
 pub mod cursor;
 pub mod look;
 pub mod ready;
+pub mod root;
