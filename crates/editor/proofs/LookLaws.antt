@@ -66,7 +66,7 @@ module _ (prefix path : Bytes) (E : Model) where
 
 -- ---- no lookup gives a number over 9
 
-abbrev refusalOf : Looked → ℕ
+abbrev pub refusalOf : Looked → ℕ
 refusalOf (found e) = 0
 refusalOf missing = 0
 refusalOf (refusal n) = n
