@@ -1,0 +1,5 @@
+-- The laws that the proofs of several functions share.
+pub mod CursorLaws
+pub mod Decided
+pub mod LookLaws
+pub mod RootLaws

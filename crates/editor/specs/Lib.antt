@@ -1,0 +1,4 @@
+-- Definitions that the contracts of `editor` cite.
+pub mod Lent
+pub mod Looks
+pub mod Roots

@@ -1,0 +1,182 @@
+// A new root: it alone is cached.
+ghost use mathlib.Core.Path.{_≡_};
+ghost use mathlib.Core.List.{List};
+ghost use mathlib.Core.Option.{some};
+ghost use Prim.Native.Nat.{ℕ, _≤_};
+ghost use lib.ListN.{length};
+ghost use Rattle.model.specs.Raw.{readTree};
+ghost use Rattle.model.specs.Tree.{Tree};
+ghost use Rattle.model.specs.Calls.{rootOnly, setRoot};
+ghost use Rattle.model.specs.Formats.{sha1};
+ghost use Rattle.names.specs.Check.{sizeOf};
+ghost use Rattle.slots.specs.View.{treeRoom, editorOf, Holds};
+ghost use Rattle.edits.specs.Answers.{codeNumber};
+ghost use Rattle.store.specs.Decides.{Decides};
+ghost use Rattle.editor.specs.Lent.{lent, Long, Does};
+ghost use Rattle.editor.specs.Roots.{Roots, Makes};
+use edits::code::Code;
+use names::tree::Checked;
+use slots::Editor;
+
+// What a call that may change the store answers: its number, and the record then.
+pub struct Answer {
+    pub code: Code,
+    pub ed: Editor,
+}
+
+// Caches a well-formed raw tree with so many entries and name bytes as the root, and nothing else, in slices as long as a store.
+fn root_only(
+    plens: &mut [u64],
+    paths: &mut [u8],
+    tlens: &mut [u64],
+    trees: &mut [u8],
+    raw: &[u8],
+    entries: usize,
+    name_bytes: usize,
+) -> Editor
+    requires { ⌜ (length (now plens) ≡ 64) × (length (now paths) ≡ 8192) × (length (now tlens) ≡ 64) × (length (now trees) ≡ treeRoom 20)
+        × (sizeOf (readTree 20 (now raw)) ≡ some (record { entries = entries; bytes = «name_bytes» })) × (entries ≤ 1024) × («name_bytes» ≤ 16384) ⌝ }
+    ensures { λ q. ⌜ ((t : Tree) → readTree 20 (now (raw .entry)) ≡ some t → (order : List ℕ) → length order ≡ 64
+        → Holds sha1 q (now (plens .exit)) (now (paths .exit)) (now (tlens .exit)) (now (trees .exit)) order
+        × (editorOf 20 q (now (plens .exit)) (now (paths .exit)) (now (tlens .exit)) (now (trees .exit)) order ≡ rootOnly t)) ⌝ }
+{
+    let none = slots::drop_all(plens, paths, tlens, trees, 20);
+    let root = names::part::front(raw, 0);
+    let one = trees::load::load(
+        none,
+        plens,
+        paths,
+        tlens,
+        trees,
+        20,
+        root,
+        raw,
+        entries,
+        name_bytes,
+    );
+    one.editor
+}
+
+// A new root in slices that are long enough: 12, then 5.
+fn rooted(
+    ed: Editor,
+    plens: &mut [u64],
+    paths: &mut [u8],
+    tlens: &mut [u64],
+    trees: &mut [u8],
+    raw: &[u8],
+) -> Answer
+    requires { ⌜ (64 ≤ length (now plens)) × (8192 ≤ length (now paths)) × (64 ≤ length (now tlens)) × (38912 ≤ length (now trees)) ⌝ }
+    ensures { λ r. ⌜ ((order : List ℕ) → 64 ≤ length order
+        → Roots (now (raw .entry)) (lent ed (now (plens .entry)) (now (paths .entry)) (now (tlens .entry)) (now (trees .entry)) order) (codeNumber (r .code))
+        (lent (r .ed) (now (plens .exit)) (now (paths .exit)) (now (tlens .exit)) (now (trees .exit)) order)) ⌝ }
+{
+    match names::tree::well_formed(raw, 20) {
+        Checked::Broken => Answer {
+            code: Code::BadRoot,
+            ed,
+        },
+        Checked::WellFormed {
+            entries,
+            name_bytes,
+        } => {
+            if 1024 < entries {
+                return Answer {
+                    code: Code::NoRoom,
+                    ed,
+                };
+            }
+            if 16384 < name_bytes {
+                return Answer {
+                    code: Code::NoRoom,
+                    ed,
+                };
+            }
+            let q = root_only(
+                &mut plens[..64],
+                &mut paths[..8192],
+                &mut tlens[..64],
+                &mut trees[..38912],
+                raw,
+                entries,
+                name_bytes,
+            );
+            Answer {
+                code: Code::Done,
+                ed: q,
+            }
+        }
+    }
+}
+
+// Whether the slices are as long as a store.
+fn long_enough(plens: &[u64], paths: &[u8], tlens: &[u64], trees: &[u8], order: &[u64]) -> bool
+    ensures { λ b. ⌜ ((ed : Editor) → Decides (Long (lent ed (now (plens .entry)) (now (paths .entry)) (now (tlens .entry)) (now (trees .entry)) (now (order .entry)))) b) ⌝ }
+{
+    if plens.len() < 64 {
+        return false;
+    }
+    if paths.len() < 8192 {
+        return false;
+    }
+    if tlens.len() < 64 {
+        return false;
+    }
+    if trees.len() < 38912 {
+        return false;
+    }
+    if order.len() < 64 {
+        return false;
+    }
+    true
+}
+
+// Makes an editor with this root. Looks at no earlier content of the store.
+pub fn new(
+    ed: Editor,
+    plens: &mut [u64],
+    paths: &mut [u8],
+    tlens: &mut [u64],
+    trees: &mut [u8],
+    order: &[u64],
+    raw: &[u8],
+) -> Answer
+    ensures { λ r. ⌜ Makes (now (raw .entry)) (lent ed (now (plens .entry)) (now (paths .entry)) (now (tlens .entry)) (now (trees .entry)) (now (order .entry))) (codeNumber (r .code))
+        (lent (r .ed) (now (plens .exit)) (now (paths .exit)) (now (tlens .exit)) (now (trees .exit)) (now (order .entry))) ⌝ }
+{
+    if !long_enough(plens, paths, tlens, trees, order) {
+        return Answer {
+            code: Code::StoreDamaged,
+            ed,
+        };
+    }
+    rooted(ed, plens, paths, tlens, trees, raw)
+}
+
+// Sets the root, and drops every cached tree.
+pub fn set_root(
+    ed: Editor,
+    plens: &mut [u64],
+    paths: &mut [u8],
+    tlens: &mut [u64],
+    trees: &mut [u8],
+    order: &[u64],
+    raw: &[u8],
+) -> Answer
+    ensures { λ r. ⌜ Does (setRoot sha1 (now (raw .entry))) (lent ed (now (plens .entry)) (now (paths .entry)) (now (tlens .entry)) (now (trees .entry)) (now (order .entry))) (codeNumber (r .code))
+        (lent (r .ed) (now (plens .exit)) (now (paths .exit)) (now (tlens .exit)) (now (trees .exit)) (now (order .entry))) ⌝ }
+{
+    if !store::holds::holds(ed, plens, paths, tlens, trees, order) {
+        return Answer {
+            code: Code::StoreDamaged,
+            ed,
+        };
+    }
+    if ed.open != 0 {
+        return Answer {
+            code: Code::WriteOpen,
+            ed,
+        };
+    }
+    rooted(ed, plens, paths, tlens, trees, raw)
+}
