@@ -1,4 +1,5 @@
 -- The laws that the proofs of several functions share.
+pub mod FairLaws
 pub mod FinishLaws
 pub mod LinkLaws
 pub mod LinkRoom

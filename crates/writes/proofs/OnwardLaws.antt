@@ -172,3 +172,15 @@ module _ {w : ℕ} {a : Asking} {o : ℕ} {r : Editor} {plens paths tlens trees 
         go : (f : Bool) → stepOf f (heldAt w plens′ paths′ tlens′ trees′ slot′) (goingOf w q plens′ paths′ tlens′ trees′ order′) ≡ nextOf (null w) g → cond f 0 (suc (weight (goingOf w q plens′ paths′ tlens′ trees′ order′))) < suc (weight g)
         go true y = omega arith
         go false y = omega (arith, turn-less (null w) g (onward-ready .taken) (goingOf w q plens′ paths′ tlens′ trees′ order′) y)
+
+-- ---- what each turn asks, from what turns keep
+
+-- a fact that gives what a turn asks, and that a turn keeps, gives it up to the next request
+pub steady-by : (nil : Bytes) (P : Going → Type 0) → ((g : Going) → P g → Ready g) → ((g x : Going) → P g → goes x ≡ nextOf nil g → P x) → (n : ℕ) (g : Going) → weight g < n → P g → Steady nil n g
+steady-by nil P ready keeps zero g l p = absurd (omega (arith, l))
+steady-by nil P ready keeps (suc n) g l p =
+    (ready g p, go (nextOf nil g) refl (λ x q. steady-by nil P ready keeps n x (omega (arith, l, turn-less nil g (ready g p .taken) x q)) (keeps g x p q)))
+  where
+    go : (s : Step) → nextOf nil g ≡ s → ((x : Going) → goes x ≡ nextOf nil g → Steady nil n x) → StepHas (λ y. Steady nil n y) s
+    go (goes x) e f = f x (sym e)
+    go (asks h x) e f = tt
