@@ -1,12 +1,12 @@
 -- The prefix of a cursor, by whether its length is within its bytes. Assumes nothing.
 use Prim.Native.Nat.{_≤_, _<_}
-use mathlib.Core.Path.{_≡_, refl, sym, ap, _∙_}
+use mathlib.Core.Path.{_≡_, sym, ap}
 use mathlib.Core.Bool.{Bool, cond}
 use mathlib.Core.List.{[], _∷_}
-use lib.ListN.{take}
+use lib.ListN.{length, take}
 use borrow.Author.Tests.{le-leb, lt-leb}
 use Rattle.model.specs.Bytes.{Bytes}
-use Rattle.editor.specs.Looks.{prefixOf}
+use Rattle.editor.specs.Looks.{standing, prefixOf}
 use Rattle.editor.specs.declared.cursor.Cursor.{Cursor}
 
 pub prefix-within : (c : Cursor) → c .len ≤ 1024 → take (c .len) (c .prefix) ≡ prefixOf c
@@ -14,3 +14,9 @@ prefix-within c h = sym (ap (λ (b : Bool). cond b (take (c .len) (c .prefix)) (
 
 pub prefix-beyond : (c : Cursor) → 1024 < c .len → _≡_ {A = Bytes} (0 ∷ []) (prefixOf c)
 prefix-beyond c h = sym (ap (λ (b : Bool). cond b (take (c .len) (c .prefix)) (0 ∷ [])) (lt-leb (c .len) 1024 h))
+
+pub standing-at : (p : Bytes) → length p ≤ 1024 → p ≡ standing p
+standing-at p h = sym (ap (λ (b : Bool). cond b p []) (le-leb (length p) 1024 h))
+
+pub standing-root : (p : Bytes) → 1024 < length p → [] ≡ standing p
+standing-root p h = sym (ap (λ (b : Bool). cond b p []) (lt-leb (length p) 1024 h))

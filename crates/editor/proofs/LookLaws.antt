@@ -1,5 +1,5 @@
 -- Laws of lookups in a store: the tests come in the order of the numbers, and none of them gives 13. Assumes nothing.
-use Prim.Native.Nat.{ℕ, zero, suc, _≤_, _<_}
+use Prim.Native.Nat.{ℕ, zero, suc, _≤_}
 use mathlib.Core.Path.{_≡_, refl, sym, ap, _∙_, subst}
 use mathlib.Core.Bool.{Bool, true, false, not, _&&_}
 use mathlib.Core.List.{List, [], _∷_}
@@ -10,7 +10,7 @@ use Rattle.model.specs.Bytes.{Bytes, isNil}
 use Rattle.model.specs.Map.{find, isSome}
 use Rattle.model.specs.Tree.{isTree, Entry, entryOfLookup}
 use Rattle.model.specs.Paths.{components, join, refused}
-use Rattle.model.specs.Editor.{Held, at, Cache, treeAt, Write}
+use Rattle.model.specs.Editor.{Held, at, Cache, treeAt}
 use Rattle.model.specs.Editor.{Editor as Model}
 use Rattle.model.specs.Formats.{sha1}
 use Rattle.model.specs.Lookup.{Looked, found, missing, refusal, pickLooked, lookOn, look, looked}

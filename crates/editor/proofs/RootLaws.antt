@@ -20,7 +20,7 @@ use Rattle.model.specs.Calls.{Answer, refuseIf, rootOnly, rooted, setRoot}
 use Rattle.model.specs.Valid.{valid}
 use Rattle.model.proofs.Basics.{none-some}
 use Rattle.model.proofs.CallsKeep.{fresh-valid}
-use Rattle.names.specs.Check.{TreeSize, sizeOf}
+use Rattle.names.specs.Check.{sizeOf}
 use Rattle.names.specs.Answers.{checkedAs}
 use Rattle.names.specs.declared.tree.Checked.{Checked}
 use Rattle.names.specs.declared.tree.Checked.the-variants.{Broken}

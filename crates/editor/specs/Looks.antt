@@ -4,7 +4,7 @@ use mathlib.Core.Path.{_≡_}
 use mathlib.Core.Bool.{true, false, cond}
 use mathlib.Core.List.{List, [], _∷_}
 use lib.Dec.{leb}
-use lib.ListN.{take}
+use lib.ListN.{length, take}
 use Rattle.model.specs.Bytes.{Bytes}
 use Rattle.model.specs.Map.{find, isSome}
 use Rattle.model.specs.Paths.{refused}
@@ -31,3 +31,7 @@ ReadyIs w ds ps bs prefix path Refused = (isSome (find at prefix (gather (slotsO
 -- the prefix of a cursor; one that is longer than its bytes stands at a NUL, where no tree can be
 abbrev pub prefixOf : Cursor → Bytes
 prefixOf c = cond (leb (c .len) 1024) (take (c .len) (c .prefix)) (0 ∷ [])
+
+-- where a cursor at a path stands: at the root where the path is too long for it
+abbrev pub standing : Bytes → Bytes
+standing p = cond (leb (length p) 1024) p []

@@ -2,11 +2,11 @@
 ghost use mathlib.Core.Path.{_≡_};
 ghost use mathlib.Core.List.{[]};
 ghost use Prim.Native.Nat.{_≤_};
-ghost use lib.ListN.{length, take};
+ghost use lib.ListN.{take};
 ghost use Rattle.model.specs.Paths.{base};
 ghost use Rattle.walk.specs.Lookups.{lookedAs};
 ghost use Rattle.editor.specs.Lent.{lent};
-ghost use Rattle.editor.specs.Looks.{Looks, prefixOf};
+ghost use Rattle.editor.specs.Looks.{Looks, standing, prefixOf};
 use slots::Editor;
 use walk::look::Looked;
 
@@ -15,12 +15,14 @@ pub struct Cursor {
     pub len: usize,
 }
 
-// The cursor at a path of at most 1,024 bytes.
+// The cursor at a path of at most 1,024 bytes; at the root where the path is longer.
 pub fn at(path: &[u8]) -> Cursor
-    requires { ⌜ length (now path) ≤ 1024 ⌝ }
-    ensures { λ r. ⌜ (r .len ≤ 1024) × (take (r .len) (r .prefix) ≡ now (path .entry)) ⌝ }
+    ensures { λ r. ⌜ (r .len ≤ 1024) × (take (r .len) (r .prefix) ≡ standing (now (path .entry))) ⌝ }
 {
     let mut prefix = [0u8; 1024];
+    if 1024 < path.len() {
+        return Cursor { prefix, len: 0 };
+    }
     let len = names::write::put(&mut prefix, 0, path);
     Cursor { prefix, len }
 }

@@ -1,11 +1,15 @@
--- `editor::cursor::at` meets its contract: the path is the front of the bytes. Assumes nothing.
+-- `editor::cursor::at` meets its contract: a path that is short enough is the front of the bytes. Assumes nothing.
 use mathlib.Core.Path.{_≡_, ap, _∙_}
 use lib.ListN.{take, length}
 use native.Mathlib.Omega.{arith}
 use Rattle.names.proofs.WriteLaws.{splice-front}
+use Rattle.editor.proofs.CursorLaws.{standing-at, standing-root}
 use borrow.Author.Needs.{needs}
 use Rattle.editor.proofs.cursor.at.Statement.{statement}
 use Rattle.editor.proofs.cursor.at.Tie as tie
+
+returns : tie.Need-returns
+returns c = (omega arith, standing-root (c .before .before .args .path .now) (c .if1 .taken))
 
 slice-aggregate-put : tie.Need-slice-aggregate-put
 slice-aggregate-put c = search needs
@@ -13,12 +17,13 @@ slice-aggregate-put c = search needs
 put-requires : tie.Need-put-requires
 put-requires c κs = search needs
 
-returns : tie.Need-returns
-returns c =
+returns-2 : tie.Need-returns-2
+returns-2 c =
     let p = c .before in
-    let s = p .before .before .before in
-    let n : p .put .result ≡ length (s .args .path .now) = omega (arith, p .put .ensures .0) in
-    (omega (arith, n, s .pre), ap (take (p .put .result)) (p .put .ensures .1) ∙ splice-front _ (s .args .path .now) (p .put .result) n)
+    let e = p .before .before in
+    let path = e .before .before .args .path .now in
+    let n : p .put .result ≡ length path = omega (arith, p .put .ensures .0) in
+    (omega (arith, n, e .if1 .left), ap (take (p .put .result)) (p .put .ensures .1) ∙ splice-front _ path (p .put .result) n ∙ standing-at path (e .if1 .left))
 
 pub at-spec : {M : Type 1} → statement M
-at-spec = tie.close (tie.spec slice-aggregate-put put-requires returns)
+at-spec = tie.close (tie.spec returns slice-aggregate-put put-requires returns-2)

@@ -1,5 +1,4 @@
 -- `editor::ready::slot_for` meets its contract: the slot of the prefix is looked for first, then the path is judged. Assumes nothing.
-use mathlib.Core.List.{List}
 use Rattle.runs.specs.Digits.{digits}
 use Rattle.runs.specs.Runs.{cut}
 use Rattle.editor.proofs.LookLaws.{no-slot, no-path, slot-in}
