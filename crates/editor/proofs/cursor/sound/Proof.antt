@@ -1,0 +1,23 @@
+-- `editor::cursor::sound` meets its contract. Assumes nothing.
+use mathlib.Core.Path.{_∙_}
+use Rattle.editor.proofs.CursorLaws.{prefix-within, prefix-beyond}
+use borrow.Author.Needs.{needs}
+use Rattle.editor.proofs.cursor.sound.Statement.{statement}
+use Rattle.editor.proofs.cursor.sound.Tie as tie
+
+returns : tie.Need-returns
+returns c = (c .if1 .taken, prefix-within (c .before .before .args .cursor) (c .if1 .taken))
+
+slice-aggregate-at : tie.Need-slice-aggregate-at
+slice-aggregate-at c = search needs
+
+at-requires : tie.Need-at-requires
+at-requires c κs = search needs
+
+returns-2 : tie.Need-returns-2
+returns-2 c =
+    let e = c .before .before in
+    (c .at .ensures .0, c .at .ensures .1 ∙ prefix-beyond (e .before .before .args .cursor) (e .if1 .left))
+
+pub sound-spec : {M : Type 1} → statement M
+sound-spec = tie.close (tie.spec returns slice-aggregate-at at-requires returns-2)

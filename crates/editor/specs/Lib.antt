@@ -1,0 +1,3 @@
+-- Definitions that the contracts of `editor` cite.
+pub mod Lent
+pub mod Looks
