@@ -1,4 +1,5 @@
 -- Definitions that the contracts of `editor` cite.
+pub mod Edited
 pub mod Lent
 pub mod Looks
 pub mod Roots

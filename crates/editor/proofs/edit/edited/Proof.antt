@@ -1,0 +1,151 @@
+-- `editor::edit::edited` meets its contract: a store that holds no editor is refused, and the fronts of the others are edited. Assumes nothing.
+use mathlib.Core.Path.{refl, sym}
+use lib.ListN.{take}
+use lib.Seq.{length-take-le}
+use borrow.Author.Tests.{not-true, not-false}
+use Rattle.edits.specs.Objects.{tableOf}
+use Rattle.edits.specs.declared.code.Code.the-variants.{StoreDamaged}
+use Rattle.editor.proofs.LookLaws.{trees-long, front-laid, front-closed}
+use Rattle.editor.proofs.EditLaws.{front-valid, damaged, done}
+use borrow.Author.Needs.{needs}
+use Rattle.editor.proofs.edit.edited.Statement.{statement}
+use Rattle.editor.proofs.edit.edited.Tie as tie
+
+holds-requires : tie.Need-holds-requires
+holds-requires c κs = search needs
+
+same-length : tie.Need-same-length
+same-length c = search needs
+
+same-length-2 : tie.Need-same-length-2
+same-length-2 c = search needs
+
+same-length-3 : tie.Need-same-length-3
+same-length-3 c = search needs
+
+same-length-4 : tie.Need-same-length-4
+same-length-4 c = search needs
+
+returns : tie.Need-returns
+returns c =
+    let h = c .before in
+    let a = h .before .before .before .before .before .before .before .before .before .before .before .before .before .before .before .args in
+    damaged (tableOf (a .ids .now) (a .ends .now) (a .raws .now)) (a .edit) (a .deep) (a .prefix .now) (a .path .now) (a .ed) (a .plens .now) (a .paths .now) (a .tlens .now) (a .trees .now) (a .order .now) StoreDamaged refl (h .holds .result) (h .holds .ensures) (not-true _ (c .if1 .taken))
+
+slice-relend-prefix-edit-held : tie.Need-slice-relend-prefix-edit-held
+slice-relend-prefix-edit-held c =
+    let e = c in
+    let h = e .before in
+    let a = h .before .before .before .before .before .before .before .before .before .before .before .before .before .before .before .args in
+    let g = h .holds .ensures .yes (not-false _ (e .if1 .left)) in
+    g .plens-room
+
+slice-aggregate-edit-held : tie.Need-slice-aggregate-edit-held
+slice-aggregate-edit-held c =
+    let e = c .before in
+    let h = e .before in
+    let a = h .before .before .before .before .before .before .before .before .before .before .before .before .before .before .before .args in
+    let g = h .holds .ensures .yes (not-false _ (e .if1 .left)) in
+    sym (length-take-le 64 (a .plens .now) (g .plens-room))
+
+slice-relend-prefix-edit-held-2 : tie.Need-slice-relend-prefix-edit-held-2
+slice-relend-prefix-edit-held-2 c =
+    let e = c .before in
+    let h = e .before in
+    let a = h .before .before .before .before .before .before .before .before .before .before .before .before .before .before .before .args in
+    let g = h .holds .ensures .yes (not-false _ (e .if1 .left)) in
+    g .paths-room
+
+slice-aggregate-edit-held-2 : tie.Need-slice-aggregate-edit-held-2
+slice-aggregate-edit-held-2 c =
+    let e = c .before .before in
+    let h = e .before in
+    let a = h .before .before .before .before .before .before .before .before .before .before .before .before .before .before .before .args in
+    let g = h .holds .ensures .yes (not-false _ (e .if1 .left)) in
+    sym (length-take-le 8192 (a .paths .now) (g .paths-room))
+
+slice-relend-prefix-edit-held-3 : tie.Need-slice-relend-prefix-edit-held-3
+slice-relend-prefix-edit-held-3 c =
+    let e = c .before .before in
+    let h = e .before in
+    let a = h .before .before .before .before .before .before .before .before .before .before .before .before .before .before .before .args in
+    let g = h .holds .ensures .yes (not-false _ (e .if1 .left)) in
+    g .tlens-room
+
+slice-aggregate-edit-held-3 : tie.Need-slice-aggregate-edit-held-3
+slice-aggregate-edit-held-3 c =
+    let e = c .before .before .before in
+    let h = e .before in
+    let a = h .before .before .before .before .before .before .before .before .before .before .before .before .before .before .before .args in
+    let g = h .holds .ensures .yes (not-false _ (e .if1 .left)) in
+    sym (length-take-le 64 (a .tlens .now) (g .tlens-room))
+
+slice-relend-prefix-edit-held-4 : tie.Need-slice-relend-prefix-edit-held-4
+slice-relend-prefix-edit-held-4 c =
+    let e = c .before .before .before in
+    let h = e .before in
+    let a = h .before .before .before .before .before .before .before .before .before .before .before .before .before .before .before .args in
+    let g = h .holds .ensures .yes (not-false _ (e .if1 .left)) in
+    trees-long (a .ed) (a .plens .now) (a .paths .now) (a .tlens .now) (a .trees .now) (a .order .now) g
+
+slice-aggregate-edit-held-4 : tie.Need-slice-aggregate-edit-held-4
+slice-aggregate-edit-held-4 c =
+    let e = c .before .before .before .before in
+    let h = e .before in
+    let a = h .before .before .before .before .before .before .before .before .before .before .before .before .before .before .before .args in
+    let g = h .holds .ensures .yes (not-false _ (e .if1 .left)) in
+    sym (length-take-le 38912 (a .trees .now) (trees-long (a .ed) (a .plens .now) (a .paths .now) (a .tlens .now) (a .trees .now) (a .order .now) g))
+
+edit-held-requires : tie.Need-edit-held-requires
+edit-held-requires c κs =
+    let e = c .before .before .before .before in
+    let h = e .before in
+    let a = h .before .before .before .before .before .before .before .before .before .before .before .before .before .before .before .args in
+    let g = h .holds .ensures .yes (not-false _ (e .if1 .left)) in
+    (front-laid (a .ed) (a .plens .now) (a .paths .now) (a .tlens .now) (a .trees .now) (a .order .now) g, front-closed (a .ed) (a .plens .now) (a .paths .now) (a .tlens .now) (a .trees .now) (a .order .now) g, front-valid (a .ed) (a .plens .now) (a .paths .now) (a .tlens .now) (a .trees .now) (a .order .now) g)
+
+same-length-5 : tie.Need-same-length-5
+same-length-5 c = search needs
+
+same-length-6 : tie.Need-same-length-6
+same-length-6 c = search needs
+
+same-length-7 : tie.Need-same-length-7
+same-length-7 c = search needs
+
+same-length-8 : tie.Need-same-length-8
+same-length-8 c = search needs
+
+returns-2 : tie.Need-returns-2
+returns-2 c =
+    let z = c .before .before .before .before .before .before .before .before in
+    let e = c .before .before .before .before .before .before .before .before .before .before .before .before .before in
+    let h = e .before in
+    let a = h .before .before .before .before .before .before .before .before .before .before .before .before .before .before .before .args in
+    let g = h .holds .ensures .yes (not-false _ (e .if1 .left)) in
+    done (tableOf (a .ids .now) (a .ends .now) (a .raws .now)) (a .edit) (a .deep) (a .prefix .now) (a .path .now) (a .ed) (a .plens .now) (a .paths .now) (a .tlens .now) (a .trees .now) (a .order .now) g (z .edit-held .result) _ _ _ _ (z .edit-held .ensures (take 64 (a .order .now)))
+
+pub edited-spec : {M : Type 1} → statement M
+edited-spec =
+    tie.close
+    (tie.spec
+    holds-requires
+    same-length
+    same-length-2
+    same-length-3
+    same-length-4
+    returns
+    slice-relend-prefix-edit-held
+    slice-aggregate-edit-held
+    slice-relend-prefix-edit-held-2
+    slice-aggregate-edit-held-2
+    slice-relend-prefix-edit-held-3
+    slice-aggregate-edit-held-3
+    slice-relend-prefix-edit-held-4
+    slice-aggregate-edit-held-4
+    edit-held-requires
+    same-length-5
+    same-length-6
+    same-length-7
+    same-length-8
+    returns-2)

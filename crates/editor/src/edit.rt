@@ -1,0 +1,126 @@
+// Edits of a lent store, below a prefix.
+ghost use mathlib.Core.Path.{_≡_};
+ghost use mathlib.Core.Bool.{true};
+ghost use mathlib.Core.List.{List};
+ghost use Prim.Native.Nat.{ℕ};
+ghost use Rattle.model.specs.Formats.{sha1};
+ghost use Rattle.model.specs.Valid.{valid};
+ghost use Rattle.model.specs.Calls as model;
+ghost use Rattle.slots.specs.View.{Laid, viewOf, editorOf};
+ghost use Rattle.change.specs.Steps.{editorAt};
+ghost use Rattle.edits.specs.Answers.{codeNumber};
+ghost use Rattle.edits.specs.Edits.{asEdit};
+ghost use Rattle.edits.specs.Objects.{tableOf};
+ghost use Rattle.editor.specs.Lent.{lent, Does};
+ghost use Rattle.editor.specs.Edited.{EditedAs};
+use crate::ready::Ready;
+use change::pass::Answer;
+use edits::code::Code;
+use edits::edit::Edit;
+use slots::Editor;
+
+// An edit at a path below a prefix, over slices as long as a store, which hold an editor.
+fn edit_held(
+    ed: Editor,
+    plens: &mut [u64],
+    paths: &mut [u8],
+    tlens: &mut [u64],
+    trees: &mut [u8],
+    ids: &[u8],
+    ends: &[u32],
+    raws: &[u8],
+    prefix: &[u8],
+    path: &[u8],
+    edit: Edit,
+    deep: bool,
+) -> Answer
+    requires { ⌜ Laid 20 ed (now plens) (now paths) (now tlens) (now trees) × (ed .«open» ≡ 0 → ed .hidden ≡ ed .free)
+        × (ed .«open» ≡ 0 → valid sha1 (editorAt (viewOf 20 ed (now plens) (now paths) (now tlens) (now trees))) ≡ true) ⌝ }
+    ensures { λ a. ⌜ ((order : List ℕ) → EditedAs ed (now (plens .entry)) (now (paths .entry)) (now (tlens .entry)) (now (trees .entry)) order
+        (model.edited sha1 (tableOf (now (ids .entry)) (now (ends .entry)) (now (raws .entry))) (asEdit edit) «deep» (now (prefix .entry)) (now (path .entry))
+        (editorOf 20 ed (now (plens .entry)) (now (paths .entry)) (now (tlens .entry)) (now (trees .entry)) order)) a (now (plens .exit)) (now (paths .exit)) (now (tlens .exit)) (now (trees .exit))) ⌝ }
+{
+    if ed.open != 0 {
+        return Answer {
+            code: Code::WriteOpen,
+            ed,
+        };
+    }
+    if !edits::table::is_good(ids, ends, raws) {
+        return Answer {
+            code: Code::BadTable,
+            ed,
+        };
+    }
+    match crate::ready::slot_for(ed, plens, paths, prefix, path) {
+        Ready::Stale => Answer {
+            code: Code::CursorStale,
+            ed,
+        },
+        Ready::Refused => Answer {
+            code: Code::PathRefused,
+            ed,
+        },
+        Ready::In(slot) => {
+            let mut buf = [0u8; 1280];
+            let n = edits::path::put_full(&mut buf, prefix, path);
+            change::pass::settle(
+                ed,
+                plens,
+                paths,
+                tlens,
+                trees,
+                ids,
+                ends,
+                raws,
+                &buf[..n],
+                path,
+                edit,
+                deep,
+                slot,
+            )
+        }
+    }
+}
+
+// An edit, or with `deep` the opening of a cursor, at a path below a prefix.
+pub fn edited(
+    ed: Editor,
+    plens: &mut [u64],
+    paths: &mut [u8],
+    tlens: &mut [u64],
+    trees: &mut [u8],
+    order: &[u64],
+    ids: &[u8],
+    ends: &[u32],
+    raws: &[u8],
+    prefix: &[u8],
+    path: &[u8],
+    edit: Edit,
+    deep: bool,
+) -> Answer
+    ensures { λ a. ⌜ Does (model.edited sha1 (tableOf (now (ids .entry)) (now (ends .entry)) (now (raws .entry))) (asEdit edit) «deep» (now (prefix .entry)) (now (path .entry)))
+        (lent ed (now (plens .entry)) (now (paths .entry)) (now (tlens .entry)) (now (trees .entry)) (now (order .entry))) (codeNumber (a .code))
+        (lent (a .ed) (now (plens .exit)) (now (paths .exit)) (now (tlens .exit)) (now (trees .exit)) (now (order .exit))) ⌝ }
+{
+    if !store::holds::holds(ed, plens, paths, tlens, trees, order) {
+        return Answer {
+            code: Code::StoreDamaged,
+            ed,
+        };
+    }
+    edit_held(
+        ed,
+        &mut plens[..64],
+        &mut paths[..8192],
+        &mut tlens[..64],
+        &mut trees[..38912],
+        ids,
+        ends,
+        raws,
+        prefix,
+        path,
+        edit,
+        deep,
+    )
+}
