@@ -11,22 +11,17 @@ use lib.Seq.{take-append-seam, drop-append-seam, length-take-le}
 use borrow.Author.Tests.{leb-true, leb-false}
 use Rattle.model.specs.Bytes.{Bytes}
 use Rattle.model.specs.Map.{find, isSome}
-use Rattle.model.specs.Paths.{components, refused}
+use Rattle.model.specs.Tree.{TREE, null}
+use Rattle.model.specs.Paths.{components, full, refused}
 use Rattle.model.specs.Table.{Table, goodTable}
 use Rattle.model.specs.Editor.{Held, at, Cache, Write, treeAt}
 use Rattle.model.specs.Editor.{Editor as Model}
 use Rattle.model.specs.Formats.{sha1}
-use Rattle.model.specs.Walk.{Edit, Walked, walk}
+use Rattle.model.specs.Walk.{Edit, upsert, Walked, walk}
 use Rattle.model.specs.Measure.{countsOf}
 use Rattle.model.specs.Calls.{refuseIf, settled, edited}
 use Rattle.model.specs.Calls.{Answer as Answered}
 use Rattle.model.specs.Calls.{opened as opens}
-use Rattle.model.specs.Walk.{upsert}
-use Rattle.model.specs.Tree.{TREE, null}
-use Rattle.model.specs.Paths.{full}
-use Rattle.edits.specs.Ids.{idBytes}
-use Rattle.edits.proofs.IdLaws.{null-id}
-use Rattle.change.proofs.SettleLaws.{short-path}
 use Rattle.model.specs.Valid.{valid}
 use Rattle.model.specs.AllCalls.{GoodEdit}
 use Rattle.model.proofs.EditKeeps.{edited-valid}
@@ -47,9 +42,11 @@ use Rattle.edits.specs.Edits.{asEdit}
 use Rattle.edits.specs.declared.code.Code.{Code}
 use Rattle.edits.specs.declared.edit.Edit.{Edit as Asked}
 use Rattle.edits.specs.declared.edit.Edit.the-variants.{Remove, Upsert}
-use Rattle.edits.proofs.IdLaws.{length-id}
+use Rattle.edits.specs.Ids.{idBytes}
+use Rattle.edits.proofs.IdLaws.{length-id, null-id}
 use Rattle.change.specs.Steps.{Standing, editorAt, SettledAs}
 use Rattle.change.specs.declared.pass.Answer.{Answer}
+use Rattle.change.proofs.SettleLaws.{short-path}
 use Rattle.editor.specs.Edited.{EditedAs}
 use Rattle.editor.specs.Lent.{Lent, lent, Good, viewed, Behind, Does}
 use Rattle.editor.specs.Looks.{ReadyIs}
