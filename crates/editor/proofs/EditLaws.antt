@@ -2,7 +2,7 @@
 use Prim.Native.Nat.{ℕ, zero, suc, _≤_, _<_}
 use mathlib.Core.Path.{_≡_, refl, sym, ap, _∙_, subst}
 use mathlib.Core.Bool.{Bool, true, false, not}
-use mathlib.Core.List.{List, _++_}
+use mathlib.Core.List.{List, [], _∷_, _++_}
 use mathlib.Core.Option.{Option, none}
 use native.Mathlib.Omega.{arith}
 use lib.Dec.{leb}
@@ -11,15 +11,17 @@ use lib.Seq.{take-append-seam, drop-append-seam, length-take-le}
 use borrow.Author.Tests.{leb-true, leb-false}
 use Rattle.model.specs.Bytes.{Bytes}
 use Rattle.model.specs.Map.{find, isSome}
-use Rattle.model.specs.Paths.{components, refused}
+use Rattle.model.specs.Tree.{TREE, null}
+use Rattle.model.specs.Paths.{components, full, refused}
 use Rattle.model.specs.Table.{Table, goodTable}
 use Rattle.model.specs.Editor.{Held, at, Cache, Write, treeAt}
 use Rattle.model.specs.Editor.{Editor as Model}
 use Rattle.model.specs.Formats.{sha1}
-use Rattle.model.specs.Walk.{Edit, Walked, walk}
+use Rattle.model.specs.Walk.{Edit, upsert, Walked, walk}
 use Rattle.model.specs.Measure.{countsOf}
 use Rattle.model.specs.Calls.{refuseIf, settled, edited}
 use Rattle.model.specs.Calls.{Answer as Answered}
+use Rattle.model.specs.Calls.{opened as opens}
 use Rattle.model.specs.Valid.{valid}
 use Rattle.model.specs.AllCalls.{GoodEdit}
 use Rattle.model.proofs.EditKeeps.{edited-valid}
@@ -40,9 +42,11 @@ use Rattle.edits.specs.Edits.{asEdit}
 use Rattle.edits.specs.declared.code.Code.{Code}
 use Rattle.edits.specs.declared.edit.Edit.{Edit as Asked}
 use Rattle.edits.specs.declared.edit.Edit.the-variants.{Remove, Upsert}
-use Rattle.edits.proofs.IdLaws.{length-id}
+use Rattle.edits.specs.Ids.{idBytes}
+use Rattle.edits.proofs.IdLaws.{length-id, null-id}
 use Rattle.change.specs.Steps.{Standing, editorAt, SettledAs}
 use Rattle.change.specs.declared.pass.Answer.{Answer}
+use Rattle.change.proofs.SettleLaws.{short-path}
 use Rattle.editor.specs.Edited.{EditedAs}
 use Rattle.editor.specs.Lent.{Lent, lent, Good, viewed, Behind, Does}
 use Rattle.editor.specs.Looks.{ReadyIs}
@@ -306,3 +310,48 @@ module _ (T : Table) (edit : Asked) (deep : Bool) (prefix path : Bytes) (r : Edi
           let z : (r .«open» ≡ 0) × Standing r (a .ed) p q t u = x .stand (λ y. omega (arith, y, n)) in
           let l = z .1 .laid in
           finish (l .plens-64) (l .paths-room) (l .tlens-64) (l .trees-room) (stood-left (l .plens-64) (l .paths-room) (l .tlens-64) (l .trees-room) z)
+
+-- ---- the opening of a cursor
+
+passed : (b : Bool) (n : ℕ) (E : Model) (A : Answered) → refuseIf b (suc n) E A .code ≡ 0 → (b ≡ false) × (A .code ≡ 0)
+unfolding refuseIf
+passed true n E A e = absurd (omega (arith, e))
+passed false n E A e = (refl, e)
+
+edited-fine : (T : Table) (e : Edit) (deep : Bool) (prefix path : Bytes) (E : Model) → edited sha1 T e deep prefix path E .code ≡ 0 → refused prefix path ≡ false
+unfolding edited
+edited-fine T e deep prefix path E z =
+    let m : Answered = settled E (walk sha1 T e deep (components path) prefix (E .cached)) in
+    let a : Answered = refuseIf (refused prefix path) 6 E m in
+    let b : Answered = refuseIf (not (isSome (find at prefix (E .cached)))) 8 E a in
+    let c : Answered = refuseIf (not (goodTable (sha1 .width) T)) 7 E b in
+    passed (refused prefix path) 5 E m (passed (not (isSome (find at prefix (E .cached)))) 7 E a (passed (not (goodTable (sha1 .width) T)) 6 E b (passed (isSome (E .writing)) 8 E c z .1) .1) .1) .0
+
+full-root : (path : Bytes) → full [] path ≡ path
+full-root [] = refl
+full-root (b ∷ bs) = refl
+
+module _ (T : Table) (e : Edit) (deep : Bool) (path : Bytes) (s q : Lent) (n : ℕ) (d : Does (edited sha1 T e deep [] path) s n q) where
+  pub opened-short : n ≡ 0 → length path ≤ 1024
+  opened-short z =
+      let m = d .done (λ y. omega (arith, y, z)) .1 in
+      let f : refused [] path ≡ false = edited-fine T e deep [] path (viewed s) (sym (ap (λ (y : Answered). y .code) m) ∙ z) in
+      subst (λ (p : Bytes). length p ≤ 1024) (full-root path) (short-path [] path f)
+
+opened-is : (T : Table) (path : Bytes) (E : Model) → edited sha1 T (upsert TREE (idBytes (record { a = 0; b = 0; c = 0; d = 0; e = 0 }))) true [] path E ≡ opens sha1 T path E
+unfolding opens
+opened-is T path E = ap (λ (i : Bytes). edited sha1 T (upsert TREE i) true [] path E) (null-id ∙ ap null (sym sha1-width))
+
+module _ (T : Table) (path : Bytes) (s q : Lent) (n : ℕ) (d : Does (edited sha1 T (upsert TREE (idBytes (record { a = 0; b = 0; c = 0; d = 0; e = 0 }))) true [] path) s n q) where
+  pub opened-does : Does (opens sha1 T path) s n q
+  opened-does =
+      record {
+        refused = d .refused;
+        done = λ z. let x = d .done z in (x .0, x .1 ∙ opened-is T path (viewed s), x .2, x .3);
+        kept = d .kept;
+      }
+
+-- ---- an edit below a cursor
+
+pub below-does : (T : Table) (e : Edit) (x y path : Bytes) → x ≡ y → (s q : Lent) (n : ℕ) → Does (edited sha1 T e false x path) s n q → Does (edited sha1 T e false y path) s n q
+below-does T e x y path z s q n d = subst (λ (p : Bytes). Does (edited sha1 T e false p path) s n q) z d

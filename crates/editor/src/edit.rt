@@ -1,11 +1,14 @@
 // Edits of a lent store, below a prefix.
 ghost use mathlib.Core.Path.{_≡_};
-ghost use mathlib.Core.Bool.{true};
-ghost use mathlib.Core.List.{List};
+ghost use mathlib.Core.Bool.{true, false};
+ghost use mathlib.Core.List.{List, []};
 ghost use Prim.Native.Nat.{ℕ};
 ghost use Rattle.model.specs.Formats.{sha1};
 ghost use Rattle.model.specs.Valid.{valid};
 ghost use Rattle.model.specs.Calls as model;
+ghost use Rattle.model.specs.Walk as walk;
+ghost use Rattle.names.specs.Answers.{asMode};
+ghost use Rattle.edits.specs.Ids.{idBytes};
 ghost use Rattle.slots.specs.View.{Laid, viewOf, editorOf};
 ghost use Rattle.change.specs.Steps.{editorAt};
 ghost use Rattle.edits.specs.Answers.{codeNumber};
@@ -17,6 +20,9 @@ use crate::ready::Ready;
 use change::pass::Answer;
 use edits::code::Code;
 use edits::edit::Edit;
+use edits::edit::RemoveKind;
+use edits::id::Id;
+use names::mode::EntryKind;
 use slots::Editor;
 
 // An edit at a path below a prefix, over slices as long as a store, which hold an editor.
@@ -122,5 +128,112 @@ pub fn edited(
         path,
         edit,
         deep,
+    )
+}
+
+// Sets the entry at a path.
+pub fn upsert(
+    ed: Editor,
+    plens: &mut [u64],
+    paths: &mut [u8],
+    tlens: &mut [u64],
+    trees: &mut [u8],
+    order: &[u64],
+    ids: &[u8],
+    ends: &[u32],
+    raws: &[u8],
+    path: &[u8],
+    kind: EntryKind,
+    id: Id,
+) -> Answer
+    ensures { λ a. ⌜ Does (model.edited sha1 (tableOf (now (ids .entry)) (now (ends .entry)) (now (raws .entry))) (walk.upsert (asMode kind) (idBytes id)) false [] (now (path .entry)))
+        (lent ed (now (plens .entry)) (now (paths .entry)) (now (tlens .entry)) (now (trees .entry)) (now (order .entry))) (codeNumber (a .code))
+        (lent (a .ed) (now (plens .exit)) (now (paths .exit)) (now (tlens .exit)) (now (trees .exit)) (now (order .exit))) ⌝ }
+{
+    let edit = Edit::Upsert(kind, id);
+    edited(
+        ed,
+        plens,
+        paths,
+        tlens,
+        trees,
+        order,
+        ids,
+        ends,
+        raws,
+        b"",
+        path,
+        edit,
+        false,
+    )
+}
+
+// Removes the entry at a path.
+pub fn remove(
+    ed: Editor,
+    plens: &mut [u64],
+    paths: &mut [u8],
+    tlens: &mut [u64],
+    trees: &mut [u8],
+    order: &[u64],
+    ids: &[u8],
+    ends: &[u32],
+    raws: &[u8],
+    path: &[u8],
+) -> Answer
+    ensures { λ a. ⌜ Does (model.edited sha1 (tableOf (now (ids .entry)) (now (ends .entry)) (now (raws .entry))) (walk.remove walk.ANY) false [] (now (path .entry)))
+        (lent ed (now (plens .entry)) (now (paths .entry)) (now (tlens .entry)) (now (trees .entry)) (now (order .entry))) (codeNumber (a .code))
+        (lent (a .ed) (now (plens .exit)) (now (paths .exit)) (now (tlens .exit)) (now (trees .exit)) (now (order .exit))) ⌝ }
+{
+    let edit = Edit::Remove(RemoveKind::Any);
+    edited(
+        ed,
+        plens,
+        paths,
+        tlens,
+        trees,
+        order,
+        ids,
+        ends,
+        raws,
+        b"",
+        path,
+        edit,
+        false,
+    )
+}
+
+// Removes the entry at a path, which must not be a tree.
+pub fn remove_leaf(
+    ed: Editor,
+    plens: &mut [u64],
+    paths: &mut [u8],
+    tlens: &mut [u64],
+    trees: &mut [u8],
+    order: &[u64],
+    ids: &[u8],
+    ends: &[u32],
+    raws: &[u8],
+    path: &[u8],
+) -> Answer
+    ensures { λ a. ⌜ Does (model.edited sha1 (tableOf (now (ids .entry)) (now (ends .entry)) (now (raws .entry))) (walk.remove walk.LEAF) false [] (now (path .entry)))
+        (lent ed (now (plens .entry)) (now (paths .entry)) (now (tlens .entry)) (now (trees .entry)) (now (order .entry))) (codeNumber (a .code))
+        (lent (a .ed) (now (plens .exit)) (now (paths .exit)) (now (tlens .exit)) (now (trees .exit)) (now (order .exit))) ⌝ }
+{
+    let edit = Edit::Remove(RemoveKind::Leaf);
+    edited(
+        ed,
+        plens,
+        paths,
+        tlens,
+        trees,
+        order,
+        ids,
+        ends,
+        raws,
+        b"",
+        path,
+        edit,
+        false,
     )
 }
