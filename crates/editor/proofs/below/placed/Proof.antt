@@ -1,6 +1,6 @@
 -- `editor::below::placed` meets its contract: only the number 0 gives the cursor at the path. Assumes nothing.
 use mathlib.Core.Path.{sym, _∙_}
-use Rattle.editor.proofs.CursorLaws.{prefix-within}
+use Rattle.editor.proofs.CursorLaws.{prefix-within, standing-at}
 use borrow.Author.Needs.{needs}
 use Rattle.editor.proofs.below.placed.Statement.{statement}
 use Rattle.editor.proofs.below.placed.Tie as tie
@@ -17,13 +17,16 @@ returns c =
     (λ z. absurd (c .before .if1 .taken (n .number .ensures ∙ z)), λ z. c .to-cursor .ensures)
 
 at-requires : tie.Need-at-requires
-at-requires c κs = c .before .before .before .pre (sym (c .before .number .ensures) ∙ c .if1 .left)
+at-requires c κs = search needs
 
 returns-2 : tie.Need-returns-2
 returns-2 c =
     let e = c .before in
     let n = e .before in
-    (λ z. sym (prefix-within (c .at .result) (c .at .ensures .0)) ∙ c .at .ensures .1, λ z. absurd (z (sym (n .number .ensures) ∙ e .if1 .left)))
+    let s = n .before .before in (
+      λ z. sym (prefix-within (c .at .result) (c .at .ensures .0)) ∙ c .at .ensures .1 ∙ sym (standing-at (s .args .path .now) (s .pre (sym (n .number .ensures) ∙ e .if1 .left))),
+      λ z. absurd (z (sym (n .number .ensures) ∙ e .if1 .left)),
+    )
 
 pub placed-spec : {M : Type 1} → statement M
 placed-spec = tie.close (tie.spec number-requires to-cursor-requires returns at-requires returns-2)
