@@ -1,0 +1,2 @@
+// The write over a lent store, one request at a time.
+pub mod request;
