@@ -18,7 +18,7 @@ use Rattle.model.proofs.Theorems.{fail-valid}
 use Rattle.slots.specs.View.{writeOf, editorOf, heldIn, heldAt, cachedOf, asideOf, stackedOf, Laid, Ordered, Holds}
 use Rattle.slots.specs.declared.Editor.{Editor}
 use Rattle.taken.specs.Taken.{SameTree}
-use Rattle.store.proofs.StoredLaws.{sha1-width}
+use Rattle.store.proofs.StoredLaws.{sha1-width, sha1-room}
 use Rattle.kept.proofs.Kept.{holds-of}
 use Rattle.editor.specs.Lent.{Lent, lent, Good, viewed, Behind, Does}
 use Rattle.writing.specs.Steps.{exactly, HoldsExactly, Made}
@@ -48,7 +48,7 @@ unfolding failed
 failed-shut zero c h us ss e = refl
 failed-shut (suc n) c h us ss e = absurd (omega (arith, e))
 
-module _ (s q : Lent) (one : Editor) (start : ℕ) (h : HoldsExactly s) (n : s .ed .«open» ≡ 0 → ⊥) (order : q .order ≡ s .order) where
+module _ (s q : Lent) (one : Editor) (start : ℕ) (h : HoldsExactly s) (n : s .ed .«open» ≡ 0 → ⊥) where
   pub fails :
       heldAt 20 (s .plens) (s .paths) (s .tlens) (s .trees) start ≡ bottom (heldAt 20 (s .plens) (s .paths) (s .tlens) (s .trees) (s .ed .asked)) (asideOf 20 (s .ed) (s .plens) (s .paths) (s .tlens) (s .trees) (s .order)) →
       cachedOf 20 one (q .plens) (q .paths) (q .tlens) (q .trees) ≡ cachedOf 20 (s .ed) (s .plens) (s .paths) (s .tlens) (s .trees) →
@@ -73,3 +73,6 @@ fail-refused s g e =
 -- a call that was made in the fronts
 pub does : (f : Model → Answer) (s q : Lent) → Good s → Good q → Behind s q → record { code = 0; editor = viewed q } ≡ f (viewed s) → Does f s 0 q
 does f s q g k b e = record { refused = λ z. absurd (omega (arith, z)); done = λ n. (g, e, k, b); kept = λ z. absurd (omega (arith, z)) }
+
+pub front-holds : (s : Lent) → Good s → Holds sha1 (s .ed) (take 64 (s .plens)) (take 8192 (s .paths)) (take 64 (s .tlens)) (take 38912 (s .trees)) (take 64 (s .order))
+front-holds s g = subst (λ (k : ℕ). Holds sha1 (s .ed) (take 64 (s .plens)) (take 8192 (s .paths)) (take 64 (s .tlens)) (take k (s .trees)) (take 64 (s .order))) sha1-room (g .holds)
