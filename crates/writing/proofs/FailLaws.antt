@@ -1,12 +1,11 @@
 -- Laws of a failure: the start tree is the only taken one that is left, and it is cached again. Assumes nothing.
-use Prim.Native.Nat.{ℕ, zero, suc, _≤_}
+use Prim.Native.Nat.{ℕ, zero, suc}
 use mathlib.Core.Path.{_≡_, refl, sym, ap, ap₂, _∙_, subst}
-use mathlib.Core.Bool.{Bool, true, false}
-use mathlib.Core.List.{List, [], _∷_, _++_}
+use mathlib.Core.Bool.{true}
+use mathlib.Core.List.{List}
 use mathlib.Core.Option.{none}
 use native.Mathlib.Omega.{arith}
-use lib.ListN.{length, take, drop}
-use Rattle.model.specs.Bytes.{Bytes}
+use lib.ListN.{take}
 use Rattle.model.specs.Map.{put}
 use Rattle.model.specs.Calls.{Answer}
 use Rattle.model.specs.Editor.{Held, at, Cache}
@@ -15,12 +14,12 @@ use Rattle.model.specs.Formats.{sha1}
 use Rattle.model.specs.Valid.{valid}
 use Rattle.model.specs.Write.{bottom, failed}
 use Rattle.model.proofs.Theorems.{fail-valid}
-use Rattle.slots.specs.View.{writeOf, editorOf, heldIn, heldAt, cachedOf, asideOf, stackedOf, Laid, Ordered, Holds}
+use Rattle.slots.specs.View.{writeOf, editorOf, heldIn, heldAt, cachedOf, asideOf, Laid, Ordered, Holds}
 use Rattle.slots.specs.declared.Editor.{Editor}
 use Rattle.taken.specs.Taken.{SameTree}
 use Rattle.store.proofs.StoredLaws.{sha1-width, sha1-room}
 use Rattle.kept.proofs.Kept.{holds-of}
-use Rattle.editor.specs.Lent.{Lent, lent, Good, viewed, Behind, Does}
+use Rattle.editor.specs.Lent.{Lent, Good, viewed, Behind, Does}
 use Rattle.writing.specs.Steps.{exactly, HoldsExactly, Made}
 
 pub laid-20 : (s : Lent) → HoldsExactly s → Laid 20 (s .ed) (s .plens) (s .paths) (s .tlens) (s .trees)

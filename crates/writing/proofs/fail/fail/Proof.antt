@@ -1,6 +1,6 @@
 -- `writing::fail::fail` meets its contract: a store that holds no editor and one with no open write are refused, then the fronts are put back before what lies behind them. Assumes nothing.
 use mathlib.Core.Path.{_≡_, sym, ap, _∙_}
-use lib.ListN.{length, take}
+use lib.ListN.{length}
 use lib.Seq.{length-take-le}
 use borrow.Author.Tests.{not-true, not-false}
 use Rattle.model.specs.Write.{failed}

@@ -1,6 +1,5 @@
 -- `writing::request::request` meets its contract: a store that holds no editor and one with no open write are refused, then the request is read. Assumes nothing.
 use mathlib.Core.Path.{refl, sym}
-use lib.ListN.{take}
 use lib.Seq.{length-take-le}
 use borrow.Author.Tests.{not-true, not-false}
 use Rattle.editor.specs.Lent.{lent}
