@@ -1,0 +1,3 @@
+// The write over a lent store, one request at a time.
+pub mod fail;
+pub mod request;
