@@ -16,6 +16,7 @@ use runs::runs::Found;
 // What is in use of the slices, and the open write. In `free`, set bits are free slots; in `hidden`, free ones and those that the write has taken.
 // `open` is 0 where no write is open, 1 for one from the root and 2 for one from a cursor; `aside` and `stacked` count its trees, and `asked` is
 // the slot of the requested one.
+#[repr(C)]
 pub struct Editor {
     pub free: u64,
     pub hidden: u64,
