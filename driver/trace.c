@@ -1,0 +1,614 @@
+/* The trace protocol of oracle/PROTOCOL.md, spoken through the C functions of tree_editor.h: calls on standard input, answers and dumps on
+ * standard output, the same text as oracle-trace.
+ *
+ *     trace [--brief] [--roomy] [--probe]
+ *
+ * What the Rust cannot show is checked here after every call, and printed as a line that oracle-trace never prints:
+ *   CHANGED   a number from 5 on, a lookup or a request left another byte in record or arrays, or wrote to its output
+ *   PAST      a byte was written outside what was lent, or past the length that was given back
+ *   DAMAGED   the store that a call left is not accepted by tree_editor_holds (HOLDS: one is, though no editor was made)
+ *   PROBE     see --probe
+ *   NUMBER    a number that the call cannot give
+ * Everything lent ends at a page that nobody may touch (lent.h), so a read past the end stops the program.
+ *
+ * --roomy lends arrays and outputs that are longer than needed; the bytes behind must stay as they are.
+ * --probe makes each call first with an array that is one element short, with a count in the record off by one, and with bad arguments; each
+ * must be refused with its number and change nothing. */
+#include <stdbool.h>
+#include <stdint.h>
+#include <stdio.h>
+#include <stdlib.h>
+#include <string.h>
+
+#include "lent.h"
+#include "sha1.h"
+#include "tree_editor.h"
+
+/* ---- bytes that grow, and text ---- */
+
+struct bytes {
+    uint8_t *at;
+    size_t len, room;
+};
+
+static void append(struct bytes *b, const void *more, size_t len)
+{
+    if (b->len + len > b->room) {
+        b->room = 2 * (b->len + len);
+        b->at = realloc(b->at, b->room);
+        if (!b->at)
+            abort();
+    }
+    if (len)
+        memcpy(b->at + b->len, more, len);
+    b->len += len;
+}
+
+static void broken(const char *what)
+{
+    fflush(stdout);
+    fprintf(stderr, "driver: not the protocol: %s\n", what);
+    exit(2);
+}
+
+static int digit(char c)
+{
+    return c >= '0' && c <= '9' ? c - '0' : c >= 'a' && c <= 'f' ? c - 'a' + 10 : -1;
+}
+
+/* The bytes of a token: hex, or `-` for none. They stay good until the next call. */
+static struct bytes unhex(const char *token)
+{
+    static struct bytes kept;
+    kept.len = 0;
+    if (!token)
+        broken("a token is missing");
+    for (const char *p = token; strcmp(token, "-") && *p; p += 2) {
+        int high = digit(p[0]), low = high < 0 ? -1 : digit(p[1]);
+        if (low < 0)
+            broken(token);
+        uint8_t byte = (uint8_t)(high << 4 | low);
+        append(&kept, &byte, 1);
+    }
+    return kept;
+}
+
+static void put_hex(const uint8_t *bytes, size_t len)
+{
+    if (!len)
+        putchar_unlocked('-');
+    for (size_t k = 0; k < len; k++) {
+        putchar_unlocked("0123456789abcdef"[bytes[k] >> 4]);
+        putchar_unlocked("0123456789abcdef"[bytes[k] & 15]);
+    }
+}
+
+/* ---- what is lent ---- */
+
+/* The five arrays, in the order of the parameters, and the bytes and elements that docs/STORE.md asks for. */
+enum { PLENS, PATHS, TLENS, TREES, ORDER, ARRAYS };
+static const size_t wide[ARRAYS] = {8, 1, 8, 1, 8};
+static const size_t need[ARRAYS] = {TREE_EDITOR_SLOTS, TREE_EDITOR_PATHS, TREE_EDITOR_SLOTS, TREE_EDITOR_TREES, TREE_EDITOR_SLOTS};
+
+static tree_editor ed;
+static struct lent array[ARRAYS];
+static size_t count[ARRAYS]; /* elements that are lent */
+static bool made;            /* whether an editor was made since the last `trace` */
+
+/* Record and arrays as they were before the call. */
+static tree_editor ed_before;
+static uint8_t *before[ARRAYS];
+
+/* Inputs and outputs of calls. */
+static struct lent raw, prefix, path, id, ids, ends, raws;
+static struct lent out, out_path, out_lens, out_id;
+static uint32_t mode;
+static struct bytes table_ids, table_ends, table_raws;
+static bool roomy, probing;
+
+static size_t extra(void)
+{
+    return roomy ? 7 : 0;
+}
+
+/* Record and arrays with other bytes for each trace, that hold no editor. */
+static void forget(void)
+{
+    static uint64_t seed = 0x9e3779b97f4a7c15;
+    for (int k = 0; k < ARRAYS; k++) {
+        count[k] = need[k] + extra();
+        uint8_t *at = lend(&array[k], count[k] * wide[k]);
+        for (size_t n = 0; n < array[k].len; n++) {
+            seed ^= seed << 13, seed ^= seed >> 7, seed ^= seed << 17;
+            at[n] = (uint8_t)(seed >> 32);
+        }
+        before[k] = realloc(before[k], array[k].len);
+        if (!before[k])
+            abort();
+    }
+    memcpy(&ed, array[TREES].at, sizeof ed);
+    ed.open |= 1 << 20;
+    made = false;
+}
+
+static void lend_table(void)
+{
+    lend_bytes(&ids, table_ids.at, table_ids.len);
+    lend_bytes(&ends, table_ends.at, table_ends.len);
+    lend_bytes(&raws, table_raws.at, table_raws.len);
+}
+
+static void add_object(const uint8_t *object, const uint8_t *bytes, size_t len)
+{
+    append(&table_ids, object, TREE_EDITOR_ID);
+    append(&table_raws, bytes, len);
+    uint32_t end = (uint32_t)table_raws.len;
+    append(&table_ends, &end, sizeof end);
+}
+
+/* ---- calls ---- */
+
+enum op { NEW, SET_ROOT, UPSERT, REMOVE, LEAF, CURSOR, GET, BEGIN, REQUEST, ANSWER, FAIL };
+
+#define LENT(l) (l).at, (l).len
+#define ONE_ARRAY(k) (void *)array[k].at, count[k]
+#define STORE ONE_ARRAY(PLENS), ONE_ARRAY(PATHS), ONE_ARRAY(TLENS), ONE_ARRAY(TREES), ONE_ARRAY(ORDER)
+#define TABLE LENT(ids), (const uint32_t *)(const void *)ends.at, ends.len / sizeof(uint32_t), LENT(raws)
+
+/* The call itself, with what is lent; `below` makes it a cursor's, at `prefix`. */
+static uint32_t call(enum op op, bool below)
+{
+    switch (op) {
+    case NEW: return tree_editor_new(&ed, STORE, LENT(raw));
+    case SET_ROOT: return tree_editor_set_root(&ed, STORE, LENT(raw));
+    case UPSERT:
+        return below ? tree_editor_upsert_at(&ed, STORE, TABLE, LENT(prefix), LENT(path), LENT(id), mode)
+                     : tree_editor_upsert(&ed, STORE, TABLE, LENT(path), LENT(id), mode);
+    case REMOVE:
+        return below ? tree_editor_remove_at(&ed, STORE, TABLE, LENT(prefix), LENT(path)) : tree_editor_remove(&ed, STORE, TABLE, LENT(path));
+    case LEAF:
+        return below ? tree_editor_remove_leaf_at(&ed, STORE, TABLE, LENT(prefix), LENT(path))
+                     : tree_editor_remove_leaf(&ed, STORE, TABLE, LENT(path));
+    case CURSOR: return tree_editor_cursor_at(&ed, STORE, TABLE, LENT(path));
+    case GET:
+        return below ? tree_editor_get_at(ed, STORE, LENT(prefix), LENT(path), LENT(out_id)) : tree_editor_get(ed, STORE, LENT(path), LENT(out_id));
+    case BEGIN: return below ? tree_editor_begin_at(&ed, STORE, LENT(prefix)) : tree_editor_begin(&ed, STORE);
+    case REQUEST:
+        return tree_editor_request(ed, STORE, LENT(out), LENT(out_path), (size_t *)(void *)out_lens.at, out_lens.len / sizeof(size_t));
+    case ANSWER: return tree_editor_answer(&ed, STORE, LENT(id));
+    case FAIL: return tree_editor_fail(&ed, STORE);
+    }
+    abort();
+}
+
+static void keep(void)
+{
+    ed_before = ed;
+    for (int k = 0; k < ARRAYS; k++)
+        memcpy(before[k], array[k].at, array[k].len);
+}
+
+static void restore(void)
+{
+    ed = ed_before;
+    for (int k = 0; k < ARRAYS; k++)
+        memcpy(array[k].at, before[k], array[k].len);
+}
+
+/* Whether a byte of record or arrays is other than before the call; only those behind the needed elements, if `behind`. */
+static bool changed(bool behind)
+{
+    bool other = !behind && memcmp(&ed, &ed_before, sizeof ed);
+    for (int k = 0; k < ARRAYS; k++) {
+        size_t from = behind ? need[k] * wide[k] : 0;
+        other = other || memcmp(array[k].at + from, before[k] + from, array[k].len - from) || !lent_marked(&array[k], array[k].len);
+    }
+    return other;
+}
+
+static size_t length_given(int k)
+{
+    size_t len;
+    memcpy(&len, out_lens.at + (size_t)k * sizeof len, sizeof len);
+    return len;
+}
+
+/* Whether outputs are marked where the call may not have written: behind what it gave back, everywhere where it was refused. */
+static bool outputs_kept(enum op op, uint32_t number)
+{
+    if (op == GET)
+        return lent_marked(&out_id, number >= TREE_EDITOR_TREE ? TREE_EDITOR_ID : 0);
+    if (op != REQUEST)
+        return true;
+    bool done = number == TREE_EDITOR_DONE;
+    if (done && (length_given(0) > out.len || length_given(1) > out_path.len))
+        return false;
+    return lent_marked(&out, done ? length_given(0) : 0) && lent_marked(&out_path, done ? length_given(1) : 0)
+        && lent_marked(&out_lens, (done ? 2 : number == TREE_EDITOR_OUTPUT_SHORT ? 1 : 0) * sizeof(size_t));
+}
+
+/* A call that has to be refused with this number, or is skipped by one of these two. */
+static void refused(enum op op, bool below, uint32_t number, const char *why)
+{
+    uint32_t got = call(op, below);
+    if (got != number || changed(false) || !outputs_kept(op, got))
+        printf("PROBE %s: %u for %u\n", why, got, number);
+}
+
+/* The same call with something wrong in what is lent. */
+static void probe(enum op op, bool below)
+{
+    static const char *const shorter[ARRAYS] = {"plens short", "paths short", "tlens short", "trees short", "order short"};
+    for (int k = 0; k < ARRAYS; k++) {
+        size_t all = count[k];
+        count[k] = need[k] - 1;
+        refused(op, below, TREE_EDITOR_STORE_DAMAGED, shorter[k]);
+        count[k] = all;
+    }
+    if (op != NEW) {
+        ed.names++, ed_before.names++;
+        refused(op, below, TREE_EDITOR_STORE_DAMAGED, "count of names");
+        ed.names--, ed_before.names--;
+    }
+    if (op == UPSERT) {
+        uint32_t right = mode;
+        mode = right ^ 0100;
+        if (mode != TREE_EDITOR_BLOB && mode != TREE_EDITOR_EXEC)
+            refused(op, below, TREE_EDITOR_BAD_ARGUMENT, "mode");
+        mode = right + 0200000;
+        refused(op, below, TREE_EDITOR_BAD_ARGUMENT, "mode");
+        mode = right;
+    }
+    if (op == UPSERT || op == ANSWER) {
+        id.len--;
+        refused(op, below, TREE_EDITOR_BAD_ARGUMENT, "id short");
+        id.len++, id.at--, id.len++;
+        refused(op, below, TREE_EDITOR_BAD_ARGUMENT, "id long");
+        id.len--, id.at++;
+    }
+    if (op == REQUEST) {
+        size_t right = out_lens.len;
+        out_lens.len = sizeof(size_t);
+        refused(op, below, TREE_EDITOR_BAD_ARGUMENT, "lens short");
+        out_lens.len = right;
+    }
+}
+
+/* A call with all checks. */
+static uint32_t checked(enum op op, bool below)
+{
+    lend(&out_id, TREE_EDITOR_ID + extra());
+    keep();
+    if (probing)
+        probe(op, below);
+    uint32_t number = call(op, below);
+    bool only_reads = op == GET || op == REQUEST;
+    if ((only_reads || number >= TREE_EDITOR_NO_ROOM) && changed(false))
+        printf("CHANGED\n");
+    if (changed(true) || !outputs_kept(op, number))
+        printf("PAST\n");
+    if (number > TREE_EDITOR_BAD_ARGUMENT && (op != GET || number < TREE_EDITOR_TREE))
+        printf("NUMBER\n");
+    made = made || (op == NEW && number == TREE_EDITOR_DONE);
+    bool holds = tree_editor_holds(ed, STORE);
+    if (holds != made)
+        printf(holds ? "HOLDS\n" : "DAMAGED\n");
+    return number;
+}
+
+/* Reads the open request into so many bytes of output. */
+static uint32_t request(size_t room)
+{
+    lend(&out, room);
+    lend(&out_path, TREE_EDITOR_PATH + extra());
+    lend(&out_lens, (2 + extra()) * sizeof(size_t));
+    return checked(REQUEST, false);
+}
+
+/* ---- dumps, from the bytes of the store ---- */
+
+struct slot {
+    const uint8_t *path, *tree;
+    size_t path_len, tree_len, entries, names;
+};
+
+static int by_path(const void *a, const void *b)
+{
+    const struct slot *x = a, *y = b;
+    int order = memcmp(x->path, y->path, x->path_len < y->path_len ? x->path_len : y->path_len);
+    return order ? order : x->path_len < y->path_len ? -1 : x->path_len > y->path_len;
+}
+
+/* An entry's bytes: kind, length of the name, id, name. */
+static size_t entry_len(const uint8_t *entry)
+{
+    return 2 + TREE_EDITOR_ID + (size_t)entry[1];
+}
+
+/* The used slots, by path. */
+static int slots(struct slot found[TREE_EDITOR_SLOTS])
+{
+    const uint64_t *plens = (const void *)array[PLENS].at, *tlens = (const void *)array[TLENS].at;
+    const uint8_t *path_at = array[PATHS].at, *tree_at = array[TREES].at;
+    int n = 0;
+    for (int k = 0; k < TREE_EDITOR_SLOTS; path_at += plens[k], tree_at += tlens[k], k++) {
+        if (ed.free >> k & 1)
+            continue;
+        struct slot s = {path_at, tree_at, plens[k], tlens[k], 0, 0};
+        for (const uint8_t *e = tree_at; e < tree_at + tlens[k]; e += entry_len(e))
+            s.entries++, s.names += e[1];
+        found[n++] = s;
+    }
+    qsort(found, (size_t)n, sizeof *found, by_path);
+    return n;
+}
+
+static void dump(const char *label, bool full)
+{
+    static const char *const modes[] = {"40000", "100644", "100755", "120000", "160000"};
+    struct slot found[TREE_EDITOR_SLOTS];
+    int n = slots(found);
+    size_t entries = 0, names = 0, paths = 0;
+    for (int k = 0; k < n; k++)
+        entries += found[k].entries, names += found[k].names, paths += found[k].path_len;
+    printf(" %s trees=%d entries=%zu names=%zu paths=%zu\n", label, n, entries, names, paths);
+    for (int k = 0; full && k < n; k++) {
+        fputs("  tree ", stdout);
+        put_hex(found[k].path, found[k].path_len);
+        printf(" %zu\n", found[k].entries);
+        for (const uint8_t *e = found[k].tree; e < found[k].tree + found[k].tree_len; e += entry_len(e)) {
+            printf("   %s ", modes[e[0]]);
+            put_hex(e + 2 + TREE_EDITOR_ID, e[1]);
+            putchar_unlocked(' ');
+            put_hex(e + 2, TREE_EDITOR_ID);
+            putchar_unlocked('\n');
+        }
+    }
+}
+
+/* The state, or with a write open what a failure would leave: the store is failed, shown and put back. */
+static void state(bool full)
+{
+    if (!made) {
+        puts(" no editor");
+    } else if (!tree_editor_holds(ed, STORE)) {
+        puts(" DAMAGED");
+    } else if (!ed.open) {
+        dump("state", full);
+    } else if (checked(FAIL, false) == TREE_EDITOR_DONE) {
+        dump("if-fail", full);
+        restore();
+    } else {
+        puts(" NUMBER");
+    }
+}
+
+/* ---- the protocol ---- */
+
+static const char *line; /* as it was read */
+
+static void says(uint32_t number)
+{
+    printf("%s => %u\n", line, number);
+}
+
+static void put_request(void)
+{
+    put_hex(out_path.at, length_given(1));
+    putchar_unlocked(' ');
+    put_hex(out.at, length_given(0));
+}
+
+/* The answer of a write's begin or answer: the next request, or the id that ended the write. */
+static void says_step(uint32_t number)
+{
+    if (number != TREE_EDITOR_DONE) {
+        says(number);
+    } else if (!ed.open) {
+        printf("%s => 0 done ", line);
+        put_hex(id.at, id.len);
+        putchar_unlocked('\n');
+    } else if (request(TREE_EDITOR_OUTPUT) == TREE_EDITOR_DONE) {
+        printf("%s => 0 request ", line);
+        put_request();
+        putchar_unlocked('\n');
+    } else {
+        puts("NUMBER");
+    }
+}
+
+static void says_read(size_t room)
+{
+    uint32_t number = request(room);
+    if (number == TREE_EDITOR_OUTPUT_SHORT) {
+        printf("%s => %u %zu\n", line, number, length_given(0));
+    } else if (number != TREE_EDITOR_DONE) {
+        says(number);
+    } else {
+        printf("%s => 0 ", line);
+        put_request();
+        putchar_unlocked('\n');
+    }
+}
+
+static void says_get(uint32_t got)
+{
+    if (got >= TREE_EDITOR_TREE) {
+        printf("%s => 0 %o ", line, got);
+        put_hex(out_id.at, TREE_EDITOR_ID);
+        putchar_unlocked('\n');
+    } else if (got == TREE_EDITOR_DONE) {
+        printf("%s => none\n", line);
+    } else {
+        says(got);
+    }
+}
+
+/* A whole write, answered with Git's ids; with `keeping`, each tree is put into the table. */
+static void finish(bool below, bool keeping)
+{
+    uint8_t git_id[TREE_EDITOR_ID];
+    uint32_t number = checked(BEGIN, below);
+    while (number == TREE_EDITOR_DONE && ed.open) {
+        number = request(TREE_EDITOR_OUTPUT);
+        if (number != TREE_EDITOR_DONE)
+            break;
+        git_tree_id(out.at, length_given(0), git_id);
+        lend_bytes(&id, git_id, sizeof git_id);
+        fputs(" wrote ", stdout);
+        put_request();
+        putchar_unlocked(' ');
+        put_hex(id.at, id.len);
+        putchar_unlocked('\n');
+        if (keeping)
+            add_object(git_id, out.at, length_given(0));
+        number = checked(ANSWER, false);
+    }
+    lend_table();
+    says_step(number);
+}
+
+/* A token's bytes, to be lent. */
+static void take(struct lent *l, const char *token)
+{
+    struct bytes b = unhex(token);
+    lend_bytes(l, b.at, b.len);
+}
+
+/* A prefix token: whether the call is a cursor's. */
+static bool take_prefix(const char *token)
+{
+    if (!token)
+        broken(line);
+    bool below = strcmp(token, ".") != 0;
+    if (below)
+        take(&prefix, token);
+    return below;
+}
+
+static void set_table(const char *new_ids, const char *new_ends, const char *new_raws)
+{
+    table_ids.len = table_ends.len = table_raws.len = 0;
+    struct bytes b = unhex(new_ids);
+    append(&table_ids, b.at, b.len);
+    if (!new_ends || !new_raws)
+        broken(line);
+    for (const char *p = new_ends; strcmp(new_ends, "-") && p; p = strchr(p, ',') ? strchr(p, ',') + 1 : NULL) {
+        uint32_t end = (uint32_t)strtoul(p, NULL, 10);
+        append(&table_ends, &end, sizeof end);
+    }
+    b = unhex(new_raws);
+    append(&table_raws, b.at, b.len);
+    lend_table();
+}
+
+/* An edit by path: prefix and path are taken; an upsert's mode and id too. */
+static void says_edit(enum op op, char **word)
+{
+    bool below = op != CURSOR && take_prefix(word[1]);
+    take(&path, op == CURSOR ? word[1] : word[2]);
+    if (op == UPSERT) {
+        take(&id, word[4]);
+        mode = (uint32_t)strtoul(word[3], NULL, 8);
+    }
+    says(checked(op, below));
+}
+
+/* One call, without its dump. Whether a dump follows. */
+static bool one_call(char **word)
+{
+    const char *name = word[0];
+    if (!strcmp(name, "trace")) {
+        forget();
+        set_table("-", "-", "-");
+        puts(line);
+        return false;
+    } else if (!strcmp(name, "object")) {
+        uint8_t object[TREE_EDITOR_ID];
+        struct bytes b = unhex(word[1]);
+        if (b.len != sizeof object)
+            broken(line);
+        memcpy(object, b.at, sizeof object);
+        b = unhex(word[2]);
+        add_object(object, b.at, b.len);
+        lend_table();
+        return false;
+    } else if (!strcmp(name, "table")) {
+        set_table(word[1], word[2], word[3]);
+        return false;
+    } else if (!strcmp(name, "read")) {
+        says_read(strtoul(word[1] ? word[1] : "", NULL, 10));
+        return false;
+    } else if (!strcmp(name, "new") || !strcmp(name, "setroot")) {
+        take(&raw, word[1]);
+        says(checked(*name == 'n' ? NEW : SET_ROOT, false));
+    } else if (!strcmp(name, "upsert")) {
+        says_edit(UPSERT, word);
+    } else if (!strcmp(name, "remove")) {
+        says_edit(REMOVE, word);
+    } else if (!strcmp(name, "leaf")) {
+        says_edit(LEAF, word);
+    } else if (!strcmp(name, "cursor")) {
+        says_edit(CURSOR, word);
+    } else if (!strcmp(name, "get")) {
+        bool below = take_prefix(word[1]);
+        take(&path, word[2]);
+        says_get(checked(GET, below));
+    } else if (!strcmp(name, "begin")) {
+        says_step(checked(BEGIN, take_prefix(word[1])));
+    } else if (!strcmp(name, "answer")) {
+        take(&id, word[1]);
+        says_step(checked(ANSWER, false));
+    } else if (!strcmp(name, "fail")) {
+        says(checked(FAIL, false));
+    } else if (!strcmp(name, "finish")) {
+        finish(take_prefix(word[1]), word[2] && !strcmp(word[2], "keep"));
+    } else if (!strcmp(name, "show")) {
+        puts("show");
+    } else {
+        broken(line);
+    }
+    return true;
+}
+
+int main(int argc, char **argv)
+{
+    bool brief = false, full = true;
+    for (int k = 1; k < argc; k++) {
+        if (!strcmp(argv[k], "--brief"))
+            brief = true;
+        else if (!strcmp(argv[k], "--roomy"))
+            roomy = true;
+        else if (!strcmp(argv[k], "--probe"))
+            probing = true;
+        else
+            broken(argv[k]);
+    }
+    forget();
+    lend_table();
+    char *text = NULL, *words = NULL;
+    size_t room = 0;
+    for (ssize_t len; (len = getline(&text, &room, stdin)) >= 0;) {
+        if (len && text[len - 1] == '\n')
+            text[--len] = 0;
+        words = realloc(words, room);
+        if (!words)
+            abort();
+        memcpy(words, text, (size_t)len + 1);
+        char *word[6] = {0}, *rest = words;
+        for (int k = 0; k < 5 && (word[k] = strtok_r(k ? NULL : words, " \t", &rest)); k++)
+            ;
+        if (!word[0] || word[0][0] == '#')
+            continue;
+        line = text;
+        if (!strcmp(word[0], "dump")) {
+            full = word[1] && !strcmp(word[1], "on");
+            continue;
+        }
+        full = full || !strcmp(word[0], "trace");
+        bool shown = !strcmp(word[0], "show"), follows = one_call(word);
+        if (shown || (follows && !brief))
+            state(full || shown);
+    }
+    return 0;
+}
