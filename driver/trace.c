@@ -73,14 +73,33 @@ static struct bytes unhex(const char *token)
     return kept;
 }
 
-static void put_hex(const uint8_t *bytes, size_t len)
+static void add_hex(struct bytes *text, const uint8_t *bytes, size_t len)
 {
     if (!len)
-        putchar_unlocked('-');
+        append(text, "-", 1);
     for (size_t k = 0; k < len; k++) {
-        putchar_unlocked("0123456789abcdef"[bytes[k] >> 4]);
-        putchar_unlocked("0123456789abcdef"[bytes[k] & 15]);
+        char two[2] = {"0123456789abcdef"[bytes[k] >> 4], "0123456789abcdef"[bytes[k] & 15]};
+        append(text, two, 2);
     }
+}
+
+static void put_hex(const uint8_t *bytes, size_t len)
+{
+    static struct bytes text;
+    text.len = 0;
+    add_hex(&text, bytes, len);
+    fwrite(text.at, 1, text.len, stdout);
+}
+
+static uint32_t adler32(const struct bytes *text)
+{
+    uint32_t a = 1, b = 0;
+    for (size_t k = 0; k < text->len; k++) {
+        a += text->at[k], b += a;
+        if (k % 5552 == 5551)
+            a %= 65521, b %= 65521;
+    }
+    return b % 65521 << 16 | a % 65521;
 }
 
 /* ---- what is lent ---- */
@@ -343,40 +362,57 @@ static int slots(struct slot found[TREE_EDITOR_SLOTS])
     return n;
 }
 
-static void dump(const char *label, bool full)
+/* The lines of trees and entries. */
+static void add_lines(struct bytes *text, const struct slot *found, int n)
 {
-    static const char *const modes[] = {"40000", "100644", "100755", "120000", "160000"};
+    static const char *const modes[] = {"   40000 ", "   100644 ", "   100755 ", "   120000 ", "   160000 "};
+    for (int k = 0; k < n; k++) {
+        char number[24];
+        append(text, "  tree ", 7);
+        add_hex(text, found[k].path, found[k].path_len);
+        append(text, number, (size_t)sprintf(number, " %zu\n", found[k].entries));
+        for (const uint8_t *e = found[k].tree; e < found[k].tree + found[k].tree_len; e += entry_len(e)) {
+            append(text, modes[e[0]], strlen(modes[e[0]]));
+            add_hex(text, e + 2 + TREE_EDITOR_ID, e[1]);
+            append(text, " ", 1);
+            add_hex(text, e + 2, TREE_EDITOR_ID);
+            append(text, "\n", 1);
+        }
+    }
+}
+
+/* What a dump shows of trees and entries: their lines, the Adler-32 of those lines, nothing. */
+enum shown { LINES, SUM, COUNTS };
+
+static void dump(const char *label, enum shown shown)
+{
+    static struct bytes text;
     struct slot found[TREE_EDITOR_SLOTS];
     int n = slots(found);
     size_t entries = 0, names = 0, paths = 0;
     for (int k = 0; k < n; k++)
         entries += found[k].entries, names += found[k].names, paths += found[k].path_len;
     printf(" %s trees=%d entries=%zu names=%zu paths=%zu\n", label, n, entries, names, paths);
-    for (int k = 0; full && k < n; k++) {
-        fputs("  tree ", stdout);
-        put_hex(found[k].path, found[k].path_len);
-        printf(" %zu\n", found[k].entries);
-        for (const uint8_t *e = found[k].tree; e < found[k].tree + found[k].tree_len; e += entry_len(e)) {
-            printf("   %s ", modes[e[0]]);
-            put_hex(e + 2 + TREE_EDITOR_ID, e[1]);
-            putchar_unlocked(' ');
-            put_hex(e + 2, TREE_EDITOR_ID);
-            putchar_unlocked('\n');
-        }
-    }
+    text.len = 0;
+    if (shown != COUNTS)
+        add_lines(&text, found, n);
+    if (shown == LINES)
+        fwrite(text.at, 1, text.len, stdout);
+    else if (shown == SUM)
+        printf("  sum %08x\n", adler32(&text));
 }
 
 /* The state, or with a write open what a failure would leave: the store is failed, shown and put back. */
-static void state(bool full)
+static void state(enum shown shown)
 {
     if (!made) {
         puts(" no editor");
     } else if (!tree_editor_holds(ed, STORE)) {
         puts(" DAMAGED");
     } else if (!ed.open) {
-        dump("state", full);
+        dump("state", shown);
     } else if (checked(FAIL, false) == TREE_EDITOR_DONE) {
-        dump("if-fail", full);
+        dump("if-fail", shown);
         restore();
     } else {
         puts(" NUMBER");
@@ -573,7 +609,8 @@ static bool one_call(char **word)
 
 int main(int argc, char **argv)
 {
-    bool brief = false, full = true;
+    bool brief = false;
+    enum shown shown = LINES;
     for (int k = 1; k < argc; k++) {
         if (!strcmp(argv[k], "--brief"))
             brief = true;
@@ -602,13 +639,14 @@ int main(int argc, char **argv)
             continue;
         line = text;
         if (!strcmp(word[0], "dump")) {
-            full = word[1] && !strcmp(word[1], "on");
+            shown = !word[1] ? COUNTS : !strcmp(word[1], "on") ? LINES : !strcmp(word[1], "sum") ? SUM : COUNTS;
             continue;
         }
-        full = full || !strcmp(word[0], "trace");
-        bool shown = !strcmp(word[0], "show"), follows = one_call(word);
-        if (shown || (follows && !brief))
-            state(full || shown);
+        if (!strcmp(word[0], "trace"))
+            shown = LINES;
+        bool show = !strcmp(word[0], "show"), follows = one_call(word);
+        if (show || (follows && !brief))
+            state(show ? LINES : shown);
     }
     return 0;
 }
