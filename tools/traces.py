@@ -144,7 +144,7 @@ class Maker:
 
     def big_good(self):
         b = self.r.choice(BLOB_IDS)
-        k = self.r.randrange(6)
+        k = self.r.randrange(7)
         if k < 2:
             return raw_of([(b"100644", b"%04d" % n, b) for n in range(1024 + k)])
         if k < 4:  # 16,384 name bytes, or one more
@@ -152,6 +152,8 @@ class Maker:
                           + [(b"100644", b"x" * (64 + k - 2), b)])
         if k == 4:
             return raw_of([(b"100644", b"%04d" % n, b) for n in range(self.r.choice([990, 1000, 1020]))])
+        if k == 5:  # both limits, and the longest output
+            return raw_of([(b"100644", b"%016d" % n, b) for n in range(1024)])
         return raw_of([(b"100644", b"%03d" % n + b"n" * 252, b) for n in range(self.r.choice([60, 63, 64]))])
 
     def build_table(self, n, big=0.02):
@@ -411,6 +413,13 @@ def near_two(m):
     m.names = [b"t00", b"t01", b"t02", b"a", b"b"]
 
 
+def written(m):
+    """A write, read at its requests, and failed at some."""
+    m.say("begin " + m.prefix())
+    while m.s.write:
+        m.one((2, m.read), (4, m.answer), (1, lambda: m.say("fail")))
+
+
 def limits(m, length):
     m.say("dump sum")
     m.pick_names(4, long_too=False)
@@ -429,9 +438,11 @@ def limits(m, length):
         elif what < 14:
             m.get()
         elif what == 14 and k > length // 2:
-            m.finish()
+            m.one((2, m.finish), (1, lambda: written(m)))
         elif what == 15 and m.r.random() < 0.3:
             m.say("%s %s" % (m.r.choice(["new", "setroot"]), out_hex(m.big_raw())))
+            if m.r.random() < 0.3:
+                written(m)
         else:
             m.say("upsert . %s %s %s" % (out_hex(m.plain_path(2)), m.mode(), m.any_id().hex()))
     m.say("show")
