@@ -48,15 +48,15 @@ static void lend_bytes(struct lent *l, const void *bytes, size_t len)
     memcpy(lend(l, len), len ? bytes : "", len);
 }
 
+/* Whether all of these bytes are marked: the first is, and each is like the one before it. */
+static int all_marked(const uint8_t *bytes, size_t len)
+{
+    return !len || (bytes[0] == MARK && !memcmp(bytes, bytes + 1, len - 1));
+}
+
 /* Whether the bytes before it, and those of it from `from` on, are all still marked. */
 static int lent_marked(const struct lent *l, size_t from)
 {
-    for (const uint8_t *p = l->at - MARGIN; p < l->at; p++)
-        if (*p != MARK)
-            return 0;
-    for (size_t k = from; k < l->len; k++)
-        if (l->at[k] != MARK)
-            return 0;
-    return 1;
+    return all_marked(l->at - MARGIN, MARGIN) && all_marked(l->at + from, l->len - from);
 }
 #endif

@@ -4,8 +4,8 @@
  *     trace [--brief] [--roomy] [--probe]
  *
  * What the Rust cannot show is checked here after every call, and printed as a line that oracle-trace never prints:
- *   CHANGED   a number from 5 on, a lookup or a request left another byte in record or arrays, or wrote to its output
- *   PAST      a byte was written outside what was lent, or past the length that was given back
+ *   CHANGED   a number from 5 on, a lookup or a request left another byte in record or arrays
+ *   PAST      a byte was written outside what was lent, behind the length that was given back, or to the output of a call that was refused
  *   DAMAGED   the store that a call left is not accepted by tree_editor_holds (HOLDS: one is, though no editor was made)
  *   PROBE     see --probe
  *   NUMBER    a number that the call cannot give
@@ -113,10 +113,12 @@ static tree_editor ed;
 static struct lent array[ARRAYS];
 static size_t count[ARRAYS]; /* elements that are lent */
 static bool made;            /* whether an editor was made since the last `trace` */
+static bool holds;           /* what tree_editor_holds said after the last call */
 
-/* Record and arrays as they were before the call. */
+/* Record and arrays as they were before the call; `kept` where they are still what they are. */
 static tree_editor ed_before;
 static uint8_t *before[ARRAYS];
+static bool kept;
 
 /* Inputs and outputs of calls. */
 static struct lent raw, prefix, path, id, ids, ends, raws;
@@ -147,7 +149,7 @@ static void forget(void)
     }
     memcpy(&ed, array[TREES].at, sizeof ed);
     ed.open |= 1 << 20;
-    made = false;
+    made = kept = false;
 }
 
 static void lend_table(void)
@@ -203,8 +205,9 @@ static uint32_t call(enum op op, bool below)
 static void keep(void)
 {
     ed_before = ed;
-    for (int k = 0; k < ARRAYS; k++)
+    for (int k = 0; k < ARRAYS && !kept; k++)
         memcpy(before[k], array[k].at, array[k].len);
+    kept = true;
 }
 
 static void restore(void)
@@ -212,6 +215,7 @@ static void restore(void)
     ed = ed_before;
     for (int k = 0; k < ARRAYS; k++)
         memcpy(array[k].at, before[k], array[k].len);
+    kept = true;
 }
 
 /* Whether a byte of record or arrays is other than before the call; only those behind the needed elements, if `behind`. */
@@ -246,7 +250,7 @@ static bool outputs_kept(enum op op, uint32_t number)
         && lent_marked(&out_lens, (done ? 2 : number == TREE_EDITOR_OUTPUT_SHORT ? 1 : 0) * sizeof(size_t));
 }
 
-/* A call that has to be refused with this number, or is skipped by one of these two. */
+/* A call that has to be refused with this number. */
 static void refused(enum op op, bool below, uint32_t number, const char *why)
 {
     uint32_t got = call(op, below);
@@ -301,15 +305,16 @@ static uint32_t checked(enum op op, bool below)
     if (probing)
         probe(op, below);
     uint32_t number = call(op, below);
-    bool only_reads = op == GET || op == REQUEST;
-    if ((only_reads || number >= TREE_EDITOR_NO_ROOM) && changed(false))
+    bool stays = op == GET || op == REQUEST || number >= TREE_EDITOR_NO_ROOM;
+    if (stays && changed(false))
         printf("CHANGED\n");
+    kept = stays;
     if (changed(true) || !outputs_kept(op, number))
         printf("PAST\n");
     if (number > TREE_EDITOR_BAD_ARGUMENT && (op != GET || number < TREE_EDITOR_TREE))
         printf("NUMBER\n");
     made = made || (op == NEW && number == TREE_EDITOR_DONE);
-    bool holds = tree_editor_holds(ed, STORE);
+    holds = tree_editor_holds(ed, STORE);
     if (holds != made)
         printf(holds ? "HOLDS\n" : "DAMAGED\n");
     return number;
@@ -407,7 +412,7 @@ static void state(enum shown shown)
 {
     if (!made) {
         puts(" no editor");
-    } else if (!tree_editor_holds(ed, STORE)) {
+    } else if (!holds) {
         puts(" DAMAGED");
     } else if (!ed.open) {
         dump("state", shown);

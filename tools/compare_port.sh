@@ -3,7 +3,7 @@
 #   compare_port.sh [PROGRAM [PERCENT]]    PROGRAM: driver/trace.c built over the library (target/driver/trace); PERCENT of each count (100)
 # 200,000 seeded traces of edits, lookups and cursors (184,000 normal, 16,000 near the limits), 110,000 of writes, every sequence of three
 # calls over three alphabets, every sequence of four over the alphabet of writes. The driver runs as it is, with arrays longer than needed
-# (--roomy) and with probes (--probe), by turns. About half an hour of two cores.
+# (--roomy) and with probes (--probe), by turns. About twenty minutes of one core.
 set -euo pipefail
 cd "$(dirname "$0")/.."
 program=${1:-target/driver/trace} percent=${2:-100}
@@ -24,12 +24,12 @@ compare() {
   echo "== $2 ${3:-plain}: $said"
 }
 
-# seeded KIND COUNT SEED... : so many traces for each seed
+# seeded KIND COUNT SEED... : so many traces for each seed; of 25 calls besides their set-up for one half, of 12 for the other
 seeded() {
   local kind=$1 count=$(($2 * percent / 100)) seed
   shift 2
   for seed in "$@"; do
-    python3 tools/traces.py --kind "$kind" --seed "$seed" --count "$count" --length 25 |
+    python3 tools/traces.py --kind "$kind" --seed "$seed" --count "$count" --length $((seed % 8 < 4 ? 25 : 12)) |
       compare "$kind" "$kind, seed $seed" "${modes[seed % 4]}"
   done
 }
