@@ -294,6 +294,10 @@ static void probe(enum op op, bool below)
         out_lens.len = sizeof(size_t);
         refused(op, below, TREE_EDITOR_BAD_ARGUMENT, "lens short");
         out_lens.len = right;
+        right = out_path.len;
+        out_path.len = TREE_EDITOR_PATH - 1;
+        refused(op, below, TREE_EDITOR_BAD_ARGUMENT, "path short");
+        out_path.len = right;
     }
 }
 
