@@ -25,7 +25,7 @@ static size_t count[ARRAYS]; /* elements that are lent */
 static bool made;            /* whether an editor was made since the last `trace` */
 static bool holds;           /* what tree_editor_holds said after the last call */
 
-/* Record and arrays as they were before the call; `kept` where they are still what they are. */
+/* Record and arrays as they were before the call; `kept` where the arrays are still so. */
 static tree_editor ed_before;
 static uint8_t *before[ARRAYS];
 static bool kept;
@@ -199,6 +199,10 @@ static void probe(enum op op, bool below)
         refused(op, below, TREE_EDITOR_BAD_ARGUMENT, "id long");
         id.len--, id.at++;
     }
+    if (op == GET && call(op, below) >= TREE_EDITOR_TREE) {
+        lend(&out_id, TREE_EDITOR_ID - 1);
+        refused(op, below, TREE_EDITOR_OUTPUT_SHORT, "id output short");
+    }
     if (op == REQUEST) {
         size_t right = out_lens.len;
         out_lens.len = sizeof(size_t);
@@ -214,10 +218,11 @@ static void probe(enum op op, bool below)
 /* A call with all checks. */
 static uint32_t checked(enum op op, bool below)
 {
-    lend(&out_id, TREE_EDITOR_ID + extra());
     keep();
+    lend(&out_id, TREE_EDITOR_ID + extra());
     if (probing)
         probe(op, below);
+    lend(&out_id, TREE_EDITOR_ID + extra());
     uint32_t number = call(op, below);
     bool stays = op == GET || op == REQUEST || number >= TREE_EDITOR_NO_ROOM;
     if (stays && changed(false))
