@@ -5,6 +5,8 @@
 # 200,000 seeded traces of edits, lookups and cursors (184,000 normal, 16,000 near the limits), 110,000 of writes, every sequence of three
 # calls over three alphabets, every sequence of four over the alphabet of writes. The driver runs as it is, with arrays longer than needed
 # (--roomy) and with probes (--probe), by turns. About twenty minutes of one core.
+# KEEP=DIR in the environment keeps the traces (some gigabytes) and digests of the Rust's answers there; where they stand, the Rust runs only to
+# show a difference. Not to be used again once generator or oracle have changed.
 set -euo pipefail
 cd "$(dirname "$0")/.."
 program=${1:-target/driver/trace} percent=${2:-100} small=${3-}
@@ -13,16 +15,30 @@ oracle=oracle/target/release/oracle-trace
 counts=target/port-counts
 mkdir -p target
 rm -f $counts-*.json
+[ -z "${KEEP-}" ] || mkdir -p "$KEEP"
 modes=("" --roomy "" --probe)
 
-# compare COUNTS WHAT MODE < TRACES
+# compare COUNTS WHAT NAME MODE < TRACES
 compare() {
-  local said
-  if ! said=$(python3 tools/compare_traces.py --quiet --counts "$counts-$1.json" - -- $oracle -- "$program" ${3:+"$3"}); then
-    printf '== %s\n%s\n' "$2 ${3:-plain}" "$said"
+  local said args=(--quiet --counts "$counts-$1.json" ${KEEP:+--digests "$KEEP/$3.sha256"})
+  if ! said=$(python3 tools/compare_traces.py "${args[@]}" - -- $oracle -- "$program" ${4:+"$4"}); then
+    printf '== %s\n%s\n' "$2 ${4:-plain}" "$said"
     exit 1
   fi
-  echo "== $2 ${3:-plain}: $said"
+  echo "== $2 ${4:-plain}: $said"
+}
+
+# made KIND SEED COUNT LENGTH : traces, from KEEP where they stand
+made() {
+  local file=${KEEP-}/$1-$2-$3
+  if [ -z "${KEEP-}" ]; then
+    python3 tools/traces.py --kind "$1" --seed "$2" --count "$3" --length "$4"
+  elif [ -e "$file" ]; then
+    cat "$file"
+  else
+    python3 tools/traces.py --kind "$1" --seed "$2" --count "$3" --length "$4" | tee "$file.part"
+    mv "$file.part" "$file"
+  fi
 }
 
 # seeded KIND COUNT SEED... : so many traces for each seed; of 25 calls besides their set-up for one half, of 12 for the other
@@ -30,17 +46,18 @@ seeded() {
   local kind=$1 count=$(($2 * percent / 100)) seed
   shift 2
   for seed in "$@"; do
-    python3 tools/traces.py --kind "$kind" --seed "$seed" --count "$count" --length $((seed % 8 < 4 ? 25 : 12)) |
-      compare "$kind" "$kind, seed $seed" "${modes[seed % 4]}"
+    made "$kind" "$seed" "$count" $((seed % 8 < 4 ? 25 : 12)) |
+      compare "$kind" "$kind, seed $seed" "$kind-$seed-$count" "${modes[seed % 4]}"
   done
 }
 
 # enumerated ALPHABET LENGTH START
 enumerated() {
-  python3 tools/enumerate_traces.py --alphabet "$1" --length "$2" --start "$3" | compare enumerated "$1, every sequence of $2 calls" "${4-}"
+  python3 tools/enumerate_traces.py --alphabet "$1" --length "$2" --start "$3" |
+    compare enumerated "$1, every sequence of $2 calls" "$1-$2-$3" ""
 }
 
-python3 tools/cases.py | compare cases "cases and edges" ""
+python3 tools/cases.py | compare cases "cases and edges" cases ""
 seeded write 10000 {1201..1211}
 seeded normal 8000 {1001..1023}
 seeded limits 2000 {1101..1108}

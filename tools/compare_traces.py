@@ -8,11 +8,13 @@ TRACES are files of oracle/PROTOCOL.md, `-` for standard input. ANSWERS is a fil
 answers: silent lines of input stand behind `> `, and the other calls are read off the answers themselves.
 Options: --batch N (calls given to a program at once, 20000), --no-shrink, --record FILE (write the first program's
 answers), --need N,M,.. (these numbers must occur), --counts FILE (add the counts to FILE's, a JSON file, and print their
-sum), --quiet.
+sum), --digests FILE (SHA-256 of the first program's answers, batch by batch: written, or where FILE stands used, so that the
+first program runs only to show a difference), --quiet.
 Exit status 1 on a difference, a crash, or a number that was needed and did not occur.
 """
 import argparse
 import collections
+import hashlib
 import json
 import os
 import re
@@ -178,6 +180,28 @@ class Counts:
                          + lines)
 
 
+class Digests:
+    """Those of one program's answers to each batch; without a name, none are known and none are kept."""
+
+    def __init__(self, name):
+        self.name, self.known, self.made = name, [], []
+        if name and os.path.exists(name):
+            with open(name) as f:
+                self.known = f.read().split()
+
+    def has(self, number, out):
+        return number < len(self.known) and self.known[number] == hashlib.sha256(out).hexdigest()
+
+    def add(self, out):
+        if self.name:
+            self.made.append(hashlib.sha256(out).hexdigest())
+
+    def close(self):
+        if self.name and not self.known:
+            with open(self.name, "w") as f:
+                f.write("".join(d + "\n" for d in self.made))
+
+
 def report(names, trace, answers, other, found):
     k, x, y = found
     print("DIFFERENCE after the last call of this trace:")
@@ -225,6 +249,7 @@ def main():
     p.add_argument("--no-shrink", action="store_true")
     p.add_argument("--need", default="")
     p.add_argument("--counts")
+    p.add_argument("--digests")
     p.add_argument("--quiet", action="store_true")
     o = p.parse_args(argv)
     if len(commands) != (1 if o.replay or o.record else 2):
@@ -239,16 +264,20 @@ def main():
     def both(trace, known):
         return known if known is not None else lines_of(run(commands[0], trace)), lines_of(run(commands[-1], trace))
 
-    counts = Counts()
-    for batch in batches(items, o.batch):
+    counts, digests = Counts(), Digests(o.digests)
+    for number, batch in enumerate(batches(items, o.batch)):
         calls = [c for t, _ in batch for c in t]
-        a = "".join(x + "\n" for _, k in batch for x in k).encode() if o.replay else run(commands[0], calls)
+        b = b"" if record else run(commands[-1], calls)
+        if digests.has(number, b):
+            a = b
+        else:
+            a = "".join(x + "\n" for _, k in batch for x in k).encode() if o.replay else run(commands[0], calls)
+            digests.add(a)
         counts.add(a)
         counts.traces += len(batch)
         if record:
             write_record(record, calls, lines_of(a))
             continue
-        b = run(commands[-1], calls)
         if a == b:
             continue
         found = first_difference(lines_of(a), lines_of(b))
@@ -266,6 +295,7 @@ def main():
             print("\nShrunk:")
             report(names, less, a, b, first_difference(a, b))
         sys.exit(1)
+    digests.close()
     if not record:
         print("no difference: %d traces, %d calls" % (counts.traces, sum(counts.by_number.values())))
     if o.counts:
