@@ -1,0 +1,28 @@
+// The write, one request at a time.
+ghost use Rattle.model.specs.Editor.{fromRoot, fromCursor};
+ghost use Rattle.model.specs.Formats.{sha1};
+ghost use Rattle.model.specs.Write.{begun, failed};
+ghost use Rattle.editor.specs.Lent.{lent, Does};
+ghost use Rattle.numbered.specs.Numbers.{Numbers, answerBy};
+use crate::Numbered;
+use slots::Editor;
+
+// Fails the open request: the start tree goes back as it stands, the other taken trees are lost.
+pub fn fail(
+    ed: Editor,
+    plens: &mut [u64],
+    paths: &mut [u8],
+    tlens: &mut [u64],
+    trees: &mut [u8],
+    order: &[u64],
+) -> Numbered
+    ensures { λ r. ⌜ Does failed (lent ed (now (plens .entry)) (now (paths .entry)) (now (tlens .entry)) (now (trees .entry)) (now (order .entry))) (r .code) (lent (r .ed) (now (plens .exit)) (now (paths .exit)) (now (tlens .exit)) (now (trees .exit)) (now (order .entry))) ⌝ }
+{
+    let a = writing::fail::fail(ed, plens, paths, tlens, trees, order);
+    let code = a.code;
+    let now = a.ed;
+    Numbered {
+        code: edits::code::number(code),
+        ed: now,
+    }
+}
