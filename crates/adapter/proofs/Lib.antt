@@ -1,0 +1,2 @@
+-- The law that the proofs of all functions share.
+pub mod Said

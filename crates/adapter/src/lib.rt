@@ -1,0 +1,4 @@
+// What a program in C links: an editor changed in place, with numbers for enums.
+mod edit;
+mod root;
+mod write;

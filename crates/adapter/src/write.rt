@@ -1,0 +1,24 @@
+// The write, one request at a time, for C.
+ghost use Rattle.model.specs.Editor.{fromRoot, fromCursor};
+ghost use Rattle.model.specs.Formats.{sha1};
+ghost use Rattle.model.specs.Write.{begun, failed};
+ghost use Rattle.editor.specs.Lent.{lent, Does};
+ghost use Rattle.numbered.specs.Numbers.{Numbers, answerBy};
+use slots::Editor;
+
+// Fails the open request: the start tree goes back as it stands, the other taken trees are lost.
+#[no_mangle]
+pub extern "C" fn tree_editor_fail(
+    ed: &mut Editor,
+    plens: &mut [u64],
+    paths: &mut [u8],
+    tlens: &mut [u64],
+    trees: &mut [u8],
+    order: &[u64],
+) -> u8
+    ensures { λ r. ⌜ Does failed (lent (now (ed .entry)) (now (plens .entry)) (now (paths .entry)) (now (tlens .entry)) (now (trees .entry)) (now (order .entry))) r (lent (now (ed .exit)) (now (plens .exit)) (now (paths .exit)) (now (tlens .exit)) (now (trees .exit)) (now (order .entry))) ⌝ }
+{
+    let d = numbered::write::fail(*ed, plens, paths, tlens, trees, order);
+    *ed = d.ed;
+    d.code
+}
