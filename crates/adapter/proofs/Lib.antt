@@ -1,2 +1,4 @@
--- The law that the proofs of all functions share.
+-- The laws that the proofs of several functions share, and that every answer is decided.
+pub mod Decided
+pub mod ReadLaws
 pub mod Said

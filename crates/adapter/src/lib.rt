@@ -1,4 +1,5 @@
 // What a program in C links: an editor changed in place, with numbers for enums.
 mod edit;
+mod read;
 mod root;
 mod write;

@@ -1,0 +1,2 @@
+-- Definitions that the contracts of `adapter` cite.
+pub mod Reads
