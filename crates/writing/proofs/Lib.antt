@@ -1,3 +1,4 @@
 -- The laws that the proofs of several functions share.
-pub mod RequestLaws
+pub mod BackLaws
 pub mod FailLaws
+pub mod RequestLaws
