@@ -3,7 +3,10 @@
  * An editor is a small record and five arrays that the caller lends to each call. Nothing is kept anywhere else, so calls may be
  * as far apart as the caller likes, and record and arrays may be moved together between two calls. A call looks only at the front of
  * an array that is longer than docs/STORE.md says, and leaves the rest as it is; where one is shorter, it gives
- * TREE_EDITOR_STORE_DAMAGED. No call asks anything of what the arrays hold. Arrays lent to one call must not overlap.
+ * TREE_EDITOR_STORE_DAMAGED. No call asks anything of what record and arrays hold. No array that a call may change overlaps another
+ * that is lent to it, or the record. An array of no elements may have any pointer.
+ *
+ * Every function but tree_editor_holds gives a number that says what it did; crates/adapter proves what each does.
  *
  * Names and paths are bytes: compared as unsigned bytes, counted as bytes, never taken for text. */
 #ifndef TREE_EDITOR_H
@@ -24,7 +27,7 @@ enum {
     TREE_EDITOR_OUTPUT = 45056  /* bytes of output that every request fits in */
 };
 
-/* The numbers that calls give back. From 5 on, no lent byte and no field of the record has changed. */
+/* The numbers that calls give back. From 5 on, no lent byte and no field of the record has changed, but for the length that goes with 11. */
 enum {
     TREE_EDITOR_DONE = 0,
     TREE_EDITOR_EMPTY_COMPONENT = 1, /* the walk reached an empty component; earlier steps stay */
@@ -40,7 +43,8 @@ enum {
     TREE_EDITOR_OUTPUT_SHORT = 11,   /* the output is too short; the length needed is given */
     TREE_EDITOR_BAD_ROOT = 12,       /* the new root isn't a well-formed raw tree */
     TREE_EDITOR_STORE_DAMAGED = 13,  /* record and arrays hold no editor */
-    TREE_EDITOR_BAD_ARGUMENT = 14    /* for C alone: a mode that is none of the five, an id that isn't 20 bytes, fewer than two lengths */
+    TREE_EDITOR_BAD_ARGUMENT = 14    /* for C alone: a mode that is none of the five, an id that isn't 20 bytes, or, for a request, fewer than
+                                        two lengths or fewer than TREE_EDITOR_PATH bytes of path; nothing else was looked at */
 };
 
 /* The modes of entries. */
@@ -86,13 +90,13 @@ typedef struct tree_editor_store {
 extern "C" {
 #endif
 
-/* Makes an editor with this raw tree as its root (no bytes: the empty tree), whatever record and arrays held. 13 only for arrays that
- * are too short, then 12, 5. */
+/* Makes an editor with this raw tree as its root (no bytes: the empty tree), whatever record and arrays held. 13, only for arrays that are
+ * too short, then 12, 5. */
 uint8_t tree_editor_new(tree_editor *ed, TREE_EDITOR_STORE, TREE_EDITOR_ORDER, const uint8_t *raw, size_t raw_len);
 /* Sets a new root; all cached trees go. 13, 9, 12, 5. */
 uint8_t tree_editor_set_root(tree_editor *ed, TREE_EDITOR_STORE, TREE_EDITOR_ORDER, const uint8_t *raw, size_t raw_len);
 
-/* Edits, from the root, and (`_at`) from the tree cached at a prefix. 14, 13, 9, 7, 8, 6, 5, 1 to 4. */
+/* Edits, from the root, and (`_at`) from the tree cached at a prefix. 14, 13, 9, 7, 8, 6, then 5 or 1 to 4. */
 uint8_t tree_editor_upsert(tree_editor *ed, TREE_EDITOR_STORE, TREE_EDITOR_ORDER, TREE_EDITOR_TABLE, const uint8_t *path, size_t path_len,
                            const uint8_t *id, size_t id_len, uint32_t mode);
 uint8_t tree_editor_upsert_at(tree_editor *ed, TREE_EDITOR_STORE, TREE_EDITOR_ORDER, TREE_EDITOR_TABLE, const uint8_t *prefix, size_t prefix_len,
@@ -116,7 +120,8 @@ uint32_t tree_editor_get_at(tree_editor ed, TREE_EDITOR_READ, const uint8_t *pre
 uint8_t tree_editor_begin(tree_editor *ed, TREE_EDITOR_STORE, uint64_t *order, size_t order_len);
 uint8_t tree_editor_begin_at(tree_editor *ed, TREE_EDITOR_STORE, uint64_t *order, size_t order_len, const uint8_t *prefix, size_t prefix_len);
 /* Reads the open request: the raw tree to the front of `out` and the path it belongs at to the front of `path`, their lengths to lens[0] and
- * lens[1]. 14, 13, 10; 11 where `out` or `path` is too short, with the lengths needed in lens. TREE_EDITOR_OUTPUT and TREE_EDITOR_PATH suffice. */
+ * lens[1]. 14 where `path` has fewer than TREE_EDITOR_PATH bytes or `lens` fewer than 2 elements, 13, 10; 11 where `out` is too short, with
+ * the length needed in lens[0] and nothing else changed: TREE_EDITOR_OUTPUT bytes always suffice. */
 uint8_t tree_editor_request(tree_editor ed, TREE_EDITOR_READ, uint8_t *out, size_t out_len, uint8_t *path, size_t path_len, size_t *lens,
                             size_t lens_len);
 /* Answers the open request with the id of the tree that was requested. 14, 13, 10. The write is over when ed->open is 0. */

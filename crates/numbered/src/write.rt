@@ -7,6 +7,47 @@ ghost use Rattle.numbered.specs.Numbers.{Numbers, answerBy};
 use crate::Numbered;
 use slots::Editor;
 
+// Begins a write from the root.
+pub fn begin(
+    ed: Editor,
+    plens: &mut [u64],
+    paths: &mut [u8],
+    tlens: &mut [u64],
+    trees: &mut [u8],
+    order: &mut [u64],
+) -> Numbered
+    ensures { λ r. ⌜ Does (begun sha1 fromRoot) (lent ed (now (plens .entry)) (now (paths .entry)) (now (tlens .entry)) (now (trees .entry)) (now (order .entry))) (r .code) (lent (r .ed) (now (plens .exit)) (now (paths .exit)) (now (tlens .exit)) (now (trees .exit)) (now (order .exit))) ⌝ }
+{
+    let a = writing::begin::begin(ed, plens, paths, tlens, trees, order);
+    let code = a.code;
+    let now = a.ed;
+    Numbered {
+        code: edits::code::number(code),
+        ed: now,
+    }
+}
+
+// Begins a write from the tree cached at a prefix.
+pub fn begin_at(
+    ed: Editor,
+    plens: &mut [u64],
+    paths: &mut [u8],
+    tlens: &mut [u64],
+    trees: &mut [u8],
+    order: &mut [u64],
+    prefix: &[u8],
+) -> Numbered
+    ensures { λ r. ⌜ Does (begun sha1 (fromCursor (now (prefix .entry)))) (lent ed (now (plens .entry)) (now (paths .entry)) (now (tlens .entry)) (now (trees .entry)) (now (order .entry))) (r .code) (lent (r .ed) (now (plens .exit)) (now (paths .exit)) (now (tlens .exit)) (now (trees .exit)) (now (order .exit))) ⌝ }
+{
+    let a = writing::begin::begin_at(ed, plens, paths, tlens, trees, order, prefix);
+    let code = a.code;
+    let now = a.ed;
+    Numbered {
+        code: edits::code::number(code),
+        ed: now,
+    }
+}
+
 // Fails the open request: the start tree goes back as it stands, the other taken trees are lost.
 pub fn fail(
     ed: Editor,
