@@ -41,7 +41,7 @@ use denote.Triple.Call.{calls-at}
 use denote.Triple.Clauses.{ensured, lasts}
 use denote.Triple.Table.{entered, cited}
 use denote.Triple.Walked.{says, needs, Stays, stay-ref, walkOf, AllGo, goes-ref, Walks, ends-at, walked, walk-meets}
-use Rattle.adapter.proofs.Said.{restOf, saids, saids-go, with-emp}
+use Rattle.inplace.proofs.Said.{restOf, saids, saids-go, with-emp}
 use Rattle.slots.specs.declared.Editor.{Editor}
 use Rattle.slots.proofs.Editor as EditorT
 use Rattle.slots.proofs.Editor.Laws as EditorL
