@@ -1,9 +1,9 @@
 -- A fair write gives a turn what it asks: its paths are valid, and each tree but the start tree has its parent set aside. A turn keeps it fair, since it moves trees or drops an empty one. Assumes nothing.
 use mathlib.Core.Path.{_≡_, refl, sym, subst}
 use mathlib.Core.Bool.{Bool, true, false, not, _&&_, _||_, cond}
-use mathlib.Core.List.{List, [], _∷_, _++_}
+use mathlib.Core.List.{List, [], _∷_}
 use native.Mathlib.Omega.{arith}
-use Prim.Native.Nat.{ℕ, suc, _+_}
+use Prim.Native.Nat.{ℕ, suc}
 use Rattle.model.specs.Bytes.{Bytes, isNil}
 use Rattle.model.specs.Tree.{withoutId, null, wellFormed}
 use Rattle.model.specs.Paths.{validPath}

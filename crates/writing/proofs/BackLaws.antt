@@ -1,5 +1,5 @@
 -- A call over the fronts of lent slices says the same of the slices themselves: what lies behind the fronts stays where it is. Assumes nothing.
-use Prim.Native.Nat.{ℕ, _≤_}
+use Prim.Native.Nat.{ℕ}
 use mathlib.Core.Path.{_≡_, ap, sym, _∙_, subst}
 use mathlib.Core.List.{List, _++_}
 use native.Mathlib.Omega.{arith}
@@ -12,8 +12,11 @@ use Rattle.slots.specs.View.{editorOf, Holds}
 use Rattle.slots.specs.declared.Editor.{Editor}
 use Rattle.editor.specs.Lent.{Lent, lent, Good, viewed, Behind, Does}
 use Rattle.editor.proofs.LookLaws.{trees-long}
-use Rattle.editor.proofs.RootLaws.{back, back-view, back-good, back-behind}
+use Rattle.editor.proofs.RootLaws.{back-view, back-good, back-behind}
 use Rattle.writing.specs.Steps.{fronts, Made, Answers}
+
+pub made-answers : (f : Model → Answer) (s q : Lent) → Made f s q → Answers f s 0 q
+made-answers f s q m = record { holds = m .holds; is = m .is; kept = λ h. absurd (omega (arith, h)); usual = λ z. omega (arith, z) }
 
 module _ (s : Lent) (g : Good s) (q : Editor) (p₁ p₂ p₃ p₄ p₅ : List ℕ) (k₁ : length p₁ ≡ length (take 64 (s .plens))) (k₂ : length p₂ ≡ length (take 8192 (s .paths))) (k₃ : length p₃ ≡ length (take 64 (s .tlens)))
     (k₄ : length p₄ ≡ length (take 38912 (s .trees))) (k₅ : length p₅ ≡ length (take 64 (s .order))) where
@@ -75,4 +78,4 @@ module _ (s : Lent) (g : Good s) (q : Editor) (p₁ p₂ p₃ p₄ p₅ : List �
 
   -- what was made over the fronts
   pub made-whole : (f : Model → Answer) → Made f (fronts s) (lent q p₁ p₂ p₃ p₄ p₅) → Does f s 0 whole
-  made-whole f m = does-whole f 0 (record { holds = m .holds; is = m .is; kept = λ h. absurd (omega (arith, h)); usual = λ z. omega (arith, z) })
+  made-whole f m = does-whole f 0 (made-answers f (fronts s) (lent q p₁ p₂ p₃ p₄ p₅) m)

@@ -25,7 +25,7 @@ use Rattle.writing.specs.Steps.{exactly, HoldsExactly, Made}
 pub laid-20 : (s : Lent) → HoldsExactly s → Laid 20 (s .ed) (s .plens) (s .paths) (s .tlens) (s .trees)
 laid-20 s h = subst (λ (w : ℕ). Laid w (s .ed) (s .plens) (s .paths) (s .tlens) (s .trees)) sha1-width (h .laid)
 
-valid-20 : (s : Lent) → HoldsExactly s → valid sha1 (exactly s) ≡ true
+pub valid-20 : (s : Lent) → HoldsExactly s → valid sha1 (exactly s) ≡ true
 valid-20 s h = ap (λ (w : ℕ). valid sha1 (editorOf w (s .ed) (s .plens) (s .paths) (s .tlens) (s .trees) (s .order))) (sym sha1-width) ∙ h .valid
 
 -- what the model makes of a valid editor is valid
