@@ -1,5 +1,5 @@
 -- Laws of an answer: where nothing is set aside the start tree was requested and the write ends; else the tree's parent is set aside, and with the id in its entry the write is fair again, so that turns lead to the next request. Assumes nothing.
-use Prim.Native.Nat.{ℕ, zero, suc, _≤_}
+use Prim.Native.Nat.{ℕ, zero, suc}
 use mathlib.Core.Path.{_≡_, refl, sym, ap, _∙_, subst}
 use mathlib.Core.Bool.{Bool, true, false}
 use mathlib.Core.List.{List, [], _∷_, map, reverse}
@@ -9,7 +9,7 @@ use lib.ListN.{length, take}
 use Rattle.model.specs.Bytes.{Bytes, same, isNil}
 use Rattle.model.specs.Map.{put}
 use Rattle.model.specs.Tree.{null}
-use Rattle.model.specs.Editor.{Held, at, Cache, Start, fromRoot, startPath}
+use Rattle.model.specs.Editor.{Held, at, Cache, Start, fromRoot, startPath, fits}
 use Rattle.model.specs.Editor.{Editor as Model}
 use Rattle.model.specs.Formats.{sha1}
 use Rattle.model.specs.Valid.{takenGood, valid}
@@ -18,9 +18,8 @@ use Rattle.model.specs.Write.{writeOf as modelWrite}
 use Rattle.model.proofs.Basics.{no-way, and-right}
 use Rattle.model.proofs.Theorems.{answer-valid}
 use Rattle.model.proofs.WriteKeeps.{Fair, FairAsk, asking-fair, valid-ask, taken-parent, link-fair}
-use Rattle.slots.specs.View.{viewOf, heldAt, pathOf, cachedOf, asideOf, stackedOf, startOf, writeOf, Laid, Ordered}
+use Rattle.slots.specs.View.{viewOf, heldAt, startOf, writeOf, Laid, Ordered}
 use Rattle.slots.specs.declared.Editor.{Editor}
-use Rattle.model.specs.Editor.{fits}
 use Rattle.taken.specs.Taken.{goingOf, writingOf, Between}
 use Rattle.taken.proofs.Steps.{asked-in-hand}
 use Rattle.store.proofs.StoredLaws.{sha1-width}

@@ -14,7 +14,7 @@ use Rattle.edits.specs.declared.code.Code.{Code}
 use Rattle.edits.specs.declared.code.Code.the-variants.{Done, EmptyComponent, TreeNotFound, TreeDamaged, NotALeaf, NoRoom, PathRefused, BadTable, CursorStale, WriteOpen, NoWriteOpen, OutputShort, BadRoot, StoreDamaged}
 use Rattle.editor.specs.Lent.{Lent, viewed}
 use Rattle.editor.specs.declared.cursor.Cursor.{Cursor}
-use Rattle.writing.specs.Requests.{shownAs, shownNumber, shownLength, Shows, Requests}
+use Rattle.writing.specs.Requests.{shownAs, shownNumber, shownLength, Requests}
 
 -- ---- the number and what is shown decide the code
 

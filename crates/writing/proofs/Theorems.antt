@@ -1,5 +1,5 @@
 -- What the statements of the write's calls give together: 45,056 bytes of output always suffice, since the requested tree is within the limits; and a write makes at most 64 requests, since each uses up a tree. Assumes nothing.
-use Prim.Native.Nat.{ℕ, zero, suc, _≤_, _<_}
+use Prim.Native.Nat.{ℕ, suc, _≤_, _<_}
 use mathlib.Core.Path.{_≡_, refl, sym, ap, ap₂, _∙_}
 use mathlib.Core.Bool.{Bool, true, false}
 use mathlib.Core.List.{List, [], _∷_, map}
@@ -16,9 +16,9 @@ use Rattle.model.specs.Editor.{Editor as Model}
 use Rattle.model.specs.Formats.{sha1}
 use Rattle.model.specs.Valid.{valid}
 use Rattle.model.specs.Write.{Shown, shown, requested, answered, show}
-use Rattle.model.specs.Written.{Request, asRequest, requests}
+use Rattle.model.specs.Written.{asRequest, requests}
 use Rattle.model.proofs.Theorems as model
-use Rattle.slots.specs.View.{heldAt, asideOf, stackedOf}
+use Rattle.slots.specs.View.{heldAt}
 use Rattle.store.proofs.StoredLaws.{sha1-width}
 use Rattle.edits.specs.Answers.{codeNumber}
 use Rattle.edits.specs.Ids.{idBytes}
