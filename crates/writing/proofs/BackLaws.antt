@@ -1,6 +1,6 @@
 -- A call over the fronts of lent slices says the same of the slices themselves: what lies behind the fronts stays where it is. Assumes nothing.
 use Prim.Native.Nat.{ℕ}
-use mathlib.Core.Path.{_≡_, ap, sym, _∙_, subst}
+use mathlib.Core.Path.{_≡_, refl, ap, sym, _∙_, subst}
 use mathlib.Core.List.{List, _++_}
 use native.Mathlib.Omega.{arith}
 use lib.ListN.{length, take, drop, length-append, take-append-drop}
@@ -14,6 +14,15 @@ use Rattle.editor.specs.Lent.{Lent, lent, Good, viewed, Behind, Does}
 use Rattle.editor.proofs.LookLaws.{trees-long}
 use Rattle.editor.proofs.RootLaws.{back-view, back-good, back-behind}
 use Rattle.writing.specs.Steps.{fronts, Made, Answers}
+
+-- a refusal leaves each byte
+pub refuses : (f : Model → Answer) (s : Lent) (n : ℕ) → Good s → (n ≡ 13 → ⊥) → record { code = n; editor = viewed s } ≡ f (viewed s) → Does f s n s
+refuses f s n g u e =
+    record {
+      refused = λ z. absurd (u z);
+      done = λ z. (g, e, g, record { plens = refl; paths = refl; tlens = refl; trees = refl; order = refl });
+      kept = λ z. refl;
+    }
 
 pub made-answers : (f : Model → Answer) (s q : Lent) → Made f s q → Answers f s 0 q
 made-answers f s q m = record { holds = m .holds; is = m .is; kept = λ h. absurd (omega (arith, h)); usual = λ z. omega (arith, z) }

@@ -38,7 +38,7 @@ use Rattle.store.proofs.StoredLaws.{sha1-width}
 use Rattle.editor.specs.Lent.{Lent, Good, viewed, Does}
 use Rattle.editor.proofs.LookLaws.{opened as is-open, shut as is-shut}
 use Rattle.writing.specs.Steps.{exactly, HoldsExactly, Made, Answers, Starts}
-use Rattle.writing.proofs.BackLaws.{made-answers}
+use Rattle.writing.proofs.BackLaws.{refuses, made-answers}
 use Rattle.writing.proofs.FailLaws.{laid-20, valid-20, made}
 
 -- ---- the request that a fair write comes to
@@ -113,11 +113,8 @@ starts-cursor p = record { low = omega arith; high = omega arith; path = refl }
 
 pub begin-refused : (S : Start) (s : Lent) → Good s → (s .ed .«open» ≡ 0 → ⊥) → Does (begun sha1 S) s 9 s
 begin-refused S s g n =
-    record {
-      refused = λ z. absurd (omega (arith, z));
-      done = λ z. (g, begun-open S (viewed s) (is-open (s .ed) (take 64 (s .plens)) (take 8192 (s .paths)) (take 64 (s .tlens)) (take 38912 (s .trees)) (take 64 (s .order)) n), g, record { plens = refl; paths = refl; tlens = refl; trees = refl; order = refl });
-      kept = λ z. refl;
-    }
+    refuses (begun sha1 S) s 9 g (λ z. omega (arith, z))
+    (begun-open S (viewed s) (is-open (s .ed) (take 64 (s .plens)) (take 8192 (s .paths)) (take 64 (s .tlens)) (take 38912 (s .trees)) (take 64 (s .order)) n))
 
 module _ (s : Lent) (h : HoldsExactly s) (z : s .ed .«open» ≡ 0) (prefix : Bytes) (from : ℕ) (t : Starts from prefix) (f : Found)
     (ready : (w : ℕ) (runs : List Bytes) → length runs ≡ 64 → SlotIs w (digits 64 (s .ed .hidden)) (cut (s .plens) (s .paths)) runs prefix f) where
