@@ -41,6 +41,24 @@ pub extern "C" fn tree_editor_begin_at(
     d.code
 }
 
+// Answers the open request with the id of the tree that was requested: 14 where it has not 20 bytes.
+#[no_mangle]
+pub extern "C" fn tree_editor_answer(
+    ed: &mut Editor,
+    plens: &mut [u64],
+    paths: &mut [u8],
+    tlens: &mut [u64],
+    trees: &mut [u8],
+    order: &mut [u64],
+    id: &[u8],
+) -> u8
+    ensures { λ r. ⌜ Numbers (answerBy (now (id .entry))) (lent (now (ed .entry)) (now (plens .entry)) (now (paths .entry)) (now (tlens .entry)) (now (trees .entry)) (now (order .entry))) r (lent (now (ed .exit)) (now (plens .exit)) (now (paths .exit)) (now (tlens .exit)) (now (trees .exit)) (now (order .exit))) ⌝ }
+{
+    let d = numbered::write::answer(*ed, plens, paths, tlens, trees, order, id);
+    *ed = d.ed;
+    d.code
+}
+
 // Fails the open request: the start tree goes back as it stands, the other taken trees are lost.
 #[no_mangle]
 pub extern "C" fn tree_editor_fail(

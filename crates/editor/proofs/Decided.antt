@@ -50,7 +50,7 @@ record Told (P : Type 0) (a : Answer) (s : Lent) (code : ℕ) (q : Lent) : Type 
   pub done : (code ≡ 13 → ⊥) → P × (record { code = code; editor = viewed q } ≡ a) × Behind s q
   pub kept : 5 ≤ code → q ≡ s
 
-pub stays-behind : (q : Lent) → Behind q q
+stays-behind : (q : Lent) → Behind q q
 stays-behind q = record { plens = refl; paths = refl; tlens = refl; trees = refl; order = refl }
 
 both-behind : (s q q′ : Lent) → Behind s q → Behind s q′ → Behind q q′

@@ -1,12 +1,14 @@
 // The write in place, one request at a time.
 ghost use Rattle.model.specs.Editor.{fromRoot, fromCursor};
 ghost use Rattle.model.specs.Formats.{sha1};
-ghost use Rattle.model.specs.Write.{begun, failed};
+ghost use Rattle.model.specs.Write.{begun, answered, failed};
 ghost use Rattle.edits.specs.Answers.{codeNumber};
+ghost use Rattle.edits.specs.Ids.{idBytes};
 ghost use Rattle.editor.specs.Lent.{lent, Does};
 ghost use Rattle.editor.specs.Looks.{prefixOf};
 use editor::cursor::Cursor;
 use edits::code::Code;
+use edits::id::Id;
 use slots::Editor;
 
 // Begins a write from the root.
@@ -55,6 +57,23 @@ pub fn begin_cursor(
     ensures { λ r. ⌜ Does (begun sha1 (fromCursor (prefixOf cursor))) (lent (now (ed .entry)) (now (plens .entry)) (now (paths .entry)) (now (tlens .entry)) (now (trees .entry)) (now (order .entry))) (codeNumber r) (lent (now (ed .exit)) (now (plens .exit)) (now (paths .exit)) (now (tlens .exit)) (now (trees .exit)) (now (order .exit))) ⌝ }
 {
     let d = writing::begin::begin_cursor(*ed, plens, paths, tlens, trees, order, cursor);
+    *ed = d.ed;
+    d.code
+}
+
+// Answers the open request with the id of the tree that was requested.
+pub fn answer(
+    ed: &mut Editor,
+    plens: &mut [u64],
+    paths: &mut [u8],
+    tlens: &mut [u64],
+    trees: &mut [u8],
+    order: &mut [u64],
+    id: Id,
+) -> Code
+    ensures { λ r. ⌜ Does (answered sha1 (idBytes id)) (lent (now (ed .entry)) (now (plens .entry)) (now (paths .entry)) (now (tlens .entry)) (now (trees .entry)) (now (order .entry))) (codeNumber r) (lent (now (ed .exit)) (now (plens .exit)) (now (paths .exit)) (now (tlens .exit)) (now (trees .exit)) (now (order .exit))) ⌝ }
+{
+    let d = writing::answer::answer(*ed, plens, paths, tlens, trees, order, id);
     *ed = d.ed;
     d.code
 }

@@ -14,6 +14,7 @@ use Rattle.model.specs.Editor.{Editor as Model}
 use Rattle.model.specs.Formats.{sha1}
 use Rattle.model.specs.Walk.{upsert}
 use Rattle.model.specs.Calls.{Answer, edited}
+use Rattle.model.specs.Write.{answered}
 use Rattle.names.specs.Answers.{asMode, modeRead}
 use Rattle.names.specs.Bits.{modeOfBits}
 use Rattle.names.specs.declared.mode.EntryKind.{EntryKind}
@@ -23,7 +24,7 @@ use Rattle.edits.specs.Ids.{idBytes}
 use Rattle.edits.specs.declared.id.Id.{Id}
 use Rattle.editor.specs.Lent.{Lent, Does}
 use Rattle.editor.specs.Roots.{Makes}
-use Rattle.numbered.specs.Numbers.{Numbers, putAs, putBy}
+use Rattle.numbered.specs.Numbers.{Numbers, putAs, putBy, answerBy}
 
 -- the number of an answer is said in its place
 pub does-number : {f : Model → Answer} {s q : Lent} {n code : ℕ} → n ≡ code → Does f s code q → Does f s n q
@@ -52,3 +53,11 @@ module _ (T : Table) (bits : ℕ) (id prefix path : Bytes) where
       → Does (edited sha1 T (upsert (asMode kind) (idBytes i)) false prefix path) s n q → Numbers (putBy T bits id prefix path) s n q
   good-put s n q r kind i l e k w d =
       by-mode s n q (some (asMode kind)) l (sym (ap modeRead k) ∙ e) (subst (λ (x : Bytes). Does (edited sha1 T (upsert (asMode kind) x) false prefix path) s n q) (whole-id i id l w) d)
+
+module _ (id : Bytes) where
+  pub bad-answer : (s : Lent) → (length id ≡ 20 → ⊥) → Numbers (answerBy id) s 14 s
+  bad-answer s h = subst (λ (b : Bool). Numbers (cond b (some (answered sha1 id)) none) s 14 s) (sym (ne-eqb (length id) 20 h)) (refl, refl)
+
+  pub good-answer : (s : Lent) (n : ℕ) (q : Lent) (i : Id) → length id ≡ 20 → idBytes i ≡ take 20 (drop 0 id) → Does (answered sha1 (idBytes i)) s n q → Numbers (answerBy id) s n q
+  good-answer s n q i l w d =
+      subst (λ (b : Bool). Numbers (cond b (some (answered sha1 id)) none) s n q) (sym (eq-eqb (length id) 20 l)) (subst (λ (x : Bytes). Does (answered sha1 x) s n q) (whole-id i id l w) d)

@@ -48,6 +48,38 @@ pub fn begin_at(
     }
 }
 
+// Answers the open request with the id of the tree that was requested: 14 where it has not 20 bytes.
+pub fn answer(
+    ed: Editor,
+    plens: &mut [u64],
+    paths: &mut [u8],
+    tlens: &mut [u64],
+    trees: &mut [u8],
+    order: &mut [u64],
+    id: &[u8],
+) -> Numbered
+    ensures { λ r. ⌜ Numbers (answerBy (now (id .entry))) (lent ed (now (plens .entry)) (now (paths .entry)) (now (tlens .entry)) (now (trees .entry)) (now (order .entry))) (r .code) (lent (r .ed) (now (plens .exit)) (now (paths .exit)) (now (tlens .exit)) (now (trees .exit)) (now (order .exit))) ⌝ }
+{
+    if id.len() != 20 {
+        return Numbered { code: 14, ed };
+    }
+    let a = writing::answer::answer(
+        ed,
+        plens,
+        paths,
+        tlens,
+        trees,
+        order,
+        edits::id::id_at(id, 0),
+    );
+    let code = a.code;
+    let now = a.ed;
+    Numbered {
+        code: edits::code::number(code),
+        ed: now,
+    }
+}
+
 // Fails the open request: the start tree goes back as it stands, the other taken trees are lost.
 pub fn fail(
     ed: Editor,
