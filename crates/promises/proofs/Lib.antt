@@ -1,0 +1,3 @@
+-- The theorems.
+pub mod OneAnswer
+pub mod Accepted

@@ -1,0 +1,3 @@
+-- What the theorems of `promises` speak of.
+pub mod Public
+pub mod Runs
