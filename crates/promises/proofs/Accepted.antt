@@ -10,20 +10,15 @@ use lib.Dec.{eqb}
 use Rattle.model.specs.Bytes.{Bytes}
 use Rattle.model.specs.Tree.{Tree}
 use Rattle.model.specs.Raw.{readTree}
-use Rattle.model.specs.Editor.{fits, fromRoot, fromCursor}
+use Rattle.model.specs.Editor.{fits}
 use Rattle.model.specs.Editor.{Editor as Model}
 use Rattle.model.specs.Formats.{sha1}
-use Rattle.model.specs.Walk.{ANY, LEAF}
 use Rattle.model.specs.Walk as walks
-use Rattle.model.specs.Calls.{Answer, refuseIf, edited, opened, rooted, rootOnly, setRoot}
-use Rattle.model.specs.Write.{begun, answered, failed}
+use Rattle.model.specs.Calls.{Answer, refuseIf, rooted, rootOnly}
 use Rattle.model.specs.Order.{All}
-use Rattle.names.specs.Answers.{asMode}
-use Rattle.edits.specs.Ids.{idBytes}
 use Rattle.editor.specs.Lent.{Lent, Long, Good, viewed, Does}
-use Rattle.editor.specs.Looks.{prefixOf}
 use Rattle.editor.specs.Roots.{Roots, Makes}
-use Rattle.promises.specs.Public.{Public, Says, Made, new, set-root, upsert, remove, remove-leaf, cursor-at, upsert-below, remove-below, remove-leaf-below, begin, begin-at, begin-cursor, answer, fail}
+use Rattle.promises.specs.Public.{does, Public, new, call, Says, Made}
 
 -- ---- one call
 
@@ -71,19 +66,7 @@ makes-keeps raw s c q m g = (n, go (eqb c 0) refl)
 -- over a store that holds an editor
 pub accepted : (x : Public) (s : Lent) (c : ℕ) (q : Lent) → Says x s c q → Good s → (c ≡ 13 → ⊥) × Good q
 accepted (new raw) = makes-keeps raw
-accepted (set-root raw) = does-keeps (setRoot sha1 raw)
-accepted (upsert T kind id path) = does-keeps (edited sha1 T (walks.upsert (asMode kind) (idBytes id)) false [] path)
-accepted (remove T path) = does-keeps (edited sha1 T (walks.remove ANY) false [] path)
-accepted (remove-leaf T path) = does-keeps (edited sha1 T (walks.remove LEAF) false [] path)
-accepted (cursor-at T path) = does-keeps (opened sha1 T path)
-accepted (upsert-below T cursor kind id path) = does-keeps (edited sha1 T (walks.upsert (asMode kind) (idBytes id)) false (prefixOf cursor) path)
-accepted (remove-below T cursor path) = does-keeps (edited sha1 T (walks.remove ANY) false (prefixOf cursor) path)
-accepted (remove-leaf-below T cursor path) = does-keeps (edited sha1 T (walks.remove LEAF) false (prefixOf cursor) path)
-accepted begin = does-keeps (begun sha1 fromRoot)
-accepted (begin-at prefix) = does-keeps (begun sha1 (fromCursor prefix))
-accepted (begin-cursor cursor) = does-keeps (begun sha1 (fromCursor (prefixOf cursor)))
-accepted (answer id) = does-keeps (answered sha1 (idBytes id))
-accepted fail = does-keeps failed
+accepted (call x) = does-keeps (does x)
 
 -- whatever the memory held: an editor that is made is accepted
 pub made-accepted : (raw : Bytes) (s q : Lent) → Says (new raw) s 0 q → Good q
@@ -91,13 +74,15 @@ made-accepted raw s q m = m .done (λ z. omega (arith, z)) .1 .good refl
 
 -- ---- lists of calls, of whatever kinds, in whatever order
 
-pub all-accepted : (xs : List (Public × ℕ)) (s q : Lent) → Made xs s q → Good s → All (λ x. x .1 ≡ 13 → ⊥) xs × Good q
-all-accepted [] s q e g = (tt, subst Good e g)
-all-accepted (x ∷ xs) s q (t, d, r) g =
-    let (n, h) = accepted (x .0) s (x .1) t d g in
-    let (ns, k) = all-accepted xs t q r h in
-    ((n, ns), k)
+pub all-accepted : (xs : List Public) (ns : List ℕ) (s q : Lent) → Made xs ns s q → Good s → All (λ n. n ≡ 13 → ⊥) ns × Good q
+all-accepted [] [] s q e g = (tt, subst Good e g)
+all-accepted [] (n ∷ ns) s q e g = absurd e
+all-accepted (x ∷ xs) [] s q e g = absurd e
+all-accepted (x ∷ xs) (n ∷ ns) s q (t, d, r) g =
+    let (h, k) = accepted x s n t d g in
+    let (hs, l) = all-accepted xs ns t q r k in
+    ((h, hs), l)
 
 -- from the making of an editor on, in memory of any content: no call answers 13, and the store is accepted
-pub accepted-from-new : (raw : Bytes) (xs : List (Public × ℕ)) (s t q : Lent) → Says (new raw) s 0 t → Made xs t q → All (λ x. x .1 ≡ 13 → ⊥) xs × Good q
-accepted-from-new raw xs s t q m r = all-accepted xs t q r (made-accepted raw s t m)
+pub accepted-from-new : (raw : Bytes) (xs : List Public) (ns : List ℕ) (s t q : Lent) → Says (new raw) s 0 t → Made xs ns t q → All (λ n. n ≡ 13 → ⊥) ns × Good q
+accepted-from-new raw xs ns s t q m r = all-accepted xs ns t q r (made-accepted raw s t m)

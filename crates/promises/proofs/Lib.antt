@@ -1,3 +1,4 @@
 -- The theorems.
 pub mod OneAnswer
 pub mod Accepted
+pub mod WrongPrograms

@@ -42,7 +42,7 @@ use Rattle.editor.specs.Roots.{Makes}
 use Rattle.editor.specs.declared.cursor.Cursor.{Cursor}
 use Rattle.editor.proofs.Decided.{Same, same-look, same-does, same-makes}
 use Rattle.editor.proofs.LookLaws.{refusalOf, looked-low}
-use Rattle.promises.specs.Public.{Public, Says, Opens, new, set-root, upsert, remove, remove-leaf, cursor-at, upsert-below, remove-below, remove-leaf-below, begin, begin-at, begin-cursor, answer, fail}
+use Rattle.promises.specs.Public.{Call, does, Public, new, call, Says, Opens, set-root, upsert, remove, remove-leaf, cursor-at, upsert-below, remove-below, remove-leaf-below, begin, begin-at, begin-cursor, answer, fail}
 
 -- ---- the number decides the case
 
@@ -174,30 +174,32 @@ opened-not : (T : Table) (path : Bytes) (E : Model) → valid sha1 E ≡ true �
 unfolding opened
 opened-not T path E v = edited-not T (walks.upsert TREE (null (sha1 .width))) true [] path E v
 
+not-11 : (x : Call) (E : Model) → valid sha1 E ≡ true → Not11 (does x E)
+not-11 (set-root raw) E v = root-not raw E
+not-11 (upsert T kind id path) E v = edited-not T (walks.upsert (asMode kind) (idBytes id)) false [] path E v
+not-11 (remove T path) E v = edited-not T (walks.remove ANY) false [] path E v
+not-11 (remove-leaf T path) E v = edited-not T (walks.remove LEAF) false [] path E v
+not-11 (cursor-at T path) E v = opened-not T path E v
+not-11 (upsert-below T cursor kind id path) E v = edited-not T (walks.upsert (asMode kind) (idBytes id)) false (prefixOf cursor) path E v
+not-11 (remove-below T cursor path) E v = edited-not T (walks.remove ANY) false (prefixOf cursor) path E v
+not-11 (remove-leaf-below T cursor path) E v = edited-not T (walks.remove LEAF) false (prefixOf cursor) path E v
+not-11 begin E v = begun-not fromRoot E
+not-11 (begin-at prefix) E v = begun-not (fromCursor prefix) E
+not-11 (begin-cursor cursor) E v = begun-not (fromCursor (prefixOf cursor)) E
+not-11 (answer id) E v = answered-of (idBytes id) (E .cached) (E .writing)
+not-11 fail E v = failed-of (E .cached) (E .writing)
+
 -- the theorem, for each of the calls
 pub one-answer : (x : Public) (s : Lent) (k k′ : Code) (q q′ : Lent) → Says x s (codeNumber k) q → Says x s (codeNumber k′) q′ → One k q k′ q′
 one-answer (new raw) = makes-one raw
-one-answer (set-root raw) = does-one (setRoot sha1 raw) (λ E v. root-not raw E)
-one-answer (upsert T kind id path) = does-one (edited sha1 T (walks.upsert (asMode kind) (idBytes id)) false [] path) (edited-not T (walks.upsert (asMode kind) (idBytes id)) false [] path)
-one-answer (remove T path) = does-one (edited sha1 T (walks.remove ANY) false [] path) (edited-not T (walks.remove ANY) false [] path)
-one-answer (remove-leaf T path) = does-one (edited sha1 T (walks.remove LEAF) false [] path) (edited-not T (walks.remove LEAF) false [] path)
-one-answer (cursor-at T path) = does-one (opened sha1 T path) (opened-not T path)
-one-answer (upsert-below T cursor kind id path) =
-    does-one (edited sha1 T (walks.upsert (asMode kind) (idBytes id)) false (prefixOf cursor) path) (edited-not T (walks.upsert (asMode kind) (idBytes id)) false (prefixOf cursor) path)
-one-answer (remove-below T cursor path) = does-one (edited sha1 T (walks.remove ANY) false (prefixOf cursor) path) (edited-not T (walks.remove ANY) false (prefixOf cursor) path)
-one-answer (remove-leaf-below T cursor path) = does-one (edited sha1 T (walks.remove LEAF) false (prefixOf cursor) path) (edited-not T (walks.remove LEAF) false (prefixOf cursor) path)
-one-answer begin = does-one (begun sha1 fromRoot) (λ E v. begun-not fromRoot E)
-one-answer (begin-at prefix) = does-one (begun sha1 (fromCursor prefix)) (λ E v. begun-not (fromCursor prefix) E)
-one-answer (begin-cursor cursor) = does-one (begun sha1 (fromCursor (prefixOf cursor))) (λ E v. begun-not (fromCursor (prefixOf cursor)) E)
-one-answer (answer id) = does-one (answered sha1 (idBytes id)) (λ E v. answered-of (idBytes id) (E .cached) (E .writing))
-one-answer fail = does-one failed (λ E v. failed-of (E .cached) (E .writing))
+one-answer (call x) = does-one (does x) (not-11 x)
 
 -- and the cursor of an opening stands at one place
 pub one-opening : (T : Table) (path : Bytes) (s : Lent) (k k′ : Code) (q q′ : Lent) (c c′ : Cursor) → Opens T path s k q c → Opens T path s k′ q′ c′ → One k q k′ q′ × (prefixOf c ≡ prefixOf c′)
 one-opening T path s k k′ q q′ c c′ o o′ = (z, go (eqb (codeNumber k) 0) refl)
   where
     z : One k q k′ q′
-    z = one-answer (cursor-at T path) s k k′ q q′ (o .store) (o′ .store)
+    z = one-answer (call (cursor-at T path)) s k k′ q q′ (o .store) (o′ .store)
 
     n : codeNumber k ≡ codeNumber k′
     n = z .store .number
