@@ -1,4 +1,7 @@
--- The theorems.
-pub mod OneAnswer
+-- The theorems; `Theorems` is the index.
 pub mod Accepted
+pub mod AnyOrder
+pub mod OneAnswer
+pub mod OneRequest
+pub mod Theorems
 pub mod WrongPrograms

@@ -25,7 +25,7 @@ use Rattle.model.specs.Valid.{valid}
 use Rattle.model.specs.Order.{idle}
 use Rattle.model.proofs.FirstPass.{measured-low}
 use Rattle.model.proofs.MeasureRight.{measure-code}
-use Rattle.model.specs.Lookup.{found}
+use Rattle.model.specs.Lookup.{found, looked}
 use Rattle.names.specs.Answers.{asMode}
 use Rattle.names.proofs.AnswerLaws.{one-kind}
 use Rattle.edits.specs.Answers.{codeNumber}
@@ -194,8 +194,8 @@ pub one-answer : (x : Public) (s : Lent) (k k′ : Code) (q q′ : Lent) → Say
 one-answer (new raw) = makes-one raw
 one-answer (call x) = does-one (does x) (not-11 x)
 
--- and the cursor of an opening stands at one place
-pub one-opening : (T : Table) (path : Bytes) (s : Lent) (k k′ : Code) (q q′ : Lent) (c c′ : Cursor) → Opens T path s k q c → Opens T path s k′ q′ c′ → One k q k′ q′ × (prefixOf c ≡ prefixOf c′)
+-- and the cursors of an opening are equal, every byte
+pub one-opening : (T : Table) (path : Bytes) (s : Lent) (k k′ : Code) (q q′ : Lent) (c c′ : Cursor) → Opens T path s k q c → Opens T path s k′ q′ c′ → One k q k′ q′ × (c ≡ c′)
 one-opening T path s k k′ q q′ c c′ o o′ = (z, go (eqb (codeNumber k) 0) refl)
   where
     z : One k q k′ q′
@@ -204,7 +204,7 @@ one-opening T path s k k′ q q′ c c′ o o′ = (z, go (eqb (codeNumber k) 0)
     n : codeNumber k ≡ codeNumber k′
     n = z .store .number
 
-    go : (b : Bool) → eqb (codeNumber k) 0 ≡ b → prefixOf c ≡ prefixOf c′
+    go : (b : Bool) → eqb (codeNumber k) 0 ≡ b → c ≡ c′
     go true e = o .there (eqb-true (codeNumber k) 0 e) ∙ sym (o′ .there (sym n ∙ eqb-true (codeNumber k) 0 e))
     go false e = o .root (eqb-false (codeNumber k) 0 e) ∙ sym (o′ .root (λ y. eqb-false (codeNumber k) 0 e (n ∙ y)))
 
@@ -234,3 +234,23 @@ one-lookup prefix path s r r′ l l′ = one-looked (base path) r r′ not-11 (s
     not-11 e =
         let m = l .answered (λ y. omega (arith, e, ap refusalOf y)) in
         omega (arith, e, ap refusalOf (m .1), looked-low prefix path (viewed s))
+
+-- ---- spare bytes and slot numbers do not show
+
+-- over two stores that hold one editor a call answers the same number and leaves the same editor
+pub spare-unread : (x : Call) (s s′ : Lent) (k k′ : Code) (q q′ : Lent) → Good s → Good s′ → viewed s ≡ viewed s′ →
+    Says (call x) s (codeNumber k) q → Says (call x) s′ (codeNumber k′) q′ → (k ≡ k′) × (viewed q ≡ viewed q′)
+spare-unread x s s′ k k′ q q′ g g′ v d d′ =
+    let m = d .done (λ z. d .refused z .0 g) .1 in
+    let m′ = d′ .done (λ z. d′ .refused z .0 g′) .1 in
+    let z : _≡_ {A = Answer} (record { code = codeNumber k; editor = viewed q }) (record { code = codeNumber k′; editor = viewed q′ }) = m ∙ ap (does x) v ∙ sym m′ in
+    let h : codeNumber k ≡ 11 → ⊥ = λ e. not-11 x (viewed s) (good-valid s g) (ap (λ (a : Answer). a .code) (sym m) ∙ e) in
+    (one-code k k′ h (ap (λ (a : Answer). a .code) z), ap (λ (a : Answer). a .editor) z)
+
+-- a lookup gives the same
+pub spare-unread-lookup : (prefix path : Bytes) (s s′ : Lent) (r r′ : Looked) → Good s → Good s′ → viewed s ≡ viewed s′ →
+    Looks prefix path s (lookedAs (base path) r) → Looks prefix path s′ (lookedAs (base path) r′) → r ≡ r′
+spare-unread-lookup prefix path s s′ r r′ g g′ v l l′ =
+    let m = l .answered (λ z. l .refused z g) .1 in
+    let m′ = l′ .answered (λ z. l′ .refused z g′) .1 in
+    one-looked (base path) r r′ (λ e. omega (arith, e, ap refusalOf m, looked-low prefix path (viewed s))) (m ∙ ap (looked prefix path) v ∙ sym m′)

@@ -18,7 +18,7 @@ use Rattle.edits.specs.Ids.{idBytes}
 use Rattle.edits.specs.declared.code.Code.{Code}
 use Rattle.edits.specs.declared.id.Id.{Id}
 use Rattle.editor.specs.Lent.{Lent, Does}
-use Rattle.editor.specs.Looks.{prefixOf}
+use Rattle.editor.specs.Looks.{prefixOf, cursorAt}
 use Rattle.editor.specs.Roots.{Makes}
 use Rattle.editor.specs.declared.cursor.Cursor.{Cursor}
 
@@ -72,5 +72,5 @@ Made (x ∷ xs) (n ∷ ns) s q = (t : Lent) × Says x s n t × Made xs ns t q
 -- the opening of a cursor gives the cursor too: at the path where it is done, at the root where it is not
 pub record Opens (T : Table) (path : Bytes) (s : Lent) (k : Code) (q : Lent) (cursor : Cursor) : Type 0 where
   pub store : Does (model.opened sha1 T path) s (codeNumber k) q
-  pub there : codeNumber k ≡ 0 → prefixOf cursor ≡ path
-  pub root : (codeNumber k ≡ 0 → ⊥) → prefixOf cursor ≡ []
+  pub there : codeNumber k ≡ 0 → cursor ≡ cursorAt path
+  pub root : (codeNumber k ≡ 0 → ⊥) → cursor ≡ cursorAt []
