@@ -1,3 +1,5 @@
 -- The laws that the proofs of several functions share.
-pub mod RequestLaws
+pub mod BackLaws
+pub mod BeginLaws
 pub mod FailLaws
+pub mod RequestLaws

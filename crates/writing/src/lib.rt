@@ -1,3 +1,4 @@
 // The write over a lent store, one request at a time.
+pub mod begin;
 pub mod fail;
 pub mod request;
