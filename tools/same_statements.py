@@ -3,8 +3,8 @@
 
     same_statements.py
 
-Each clause of `does` is compared with the term under `Does` in the `ensures` of the function that it names. A call that is listed but
-has no function yet is told. Exit status 1 if two differ, or if a public function with such a contract is in no clause.
+Each clause of `does` is compared with the term under `Does` in the `ensures` of the function that it names. Exit status 1 if two
+differ, or if a clause has no function, or a public function with such a contract no clause.
 """
 import glob
 import os
@@ -63,9 +63,7 @@ def main():
     wrong = [f"{f}: the contract says {t!r}, the list {clauses.get(CLAUSES.get(f))!r}"
              for f, t in found.items() if f not in PARTS and clauses.get(CLAUSES.get(f)) != t]
     wrong += [f"{c}: no function is named for this clause" for c in clauses if c not in CLAUSES.values()]
-    for f in CLAUSES:
-        if f not in found:
-            print(f"no function yet: {f}")
+    wrong += [f"{f}: no such function, or no `Does` in its contract" for f in CLAUSES if f not in found]
     print("\n".join(wrong) if wrong else f"{len(found) - len(PARTS & set(found))} contracts are as the list says")
     return 1 if wrong else 0
 

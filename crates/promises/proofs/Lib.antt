@@ -3,5 +3,6 @@ pub mod Accepted
 pub mod AnyOrder
 pub mod OneAnswer
 pub mod OneRequest
+pub mod SameCounts
 pub mod Theorems
 pub mod WrongPrograms
