@@ -33,8 +33,9 @@ use Rattle.editor.specs.Lent.{Lent, Good, viewed, Does}
 use Rattle.editor.specs.declared.cursor.Cursor.{Cursor}
 use Rattle.editor.specs.Looks.{cursorAt}
 use Rattle.writing.specs.Requests.{Shows, shownAs, shownNumber, placeIn}
+use Rattle.writing.proofs.Theorems.{viewed-valid}
 use Rattle.promises.specs.Runs.{Upserts, AllDone, given, Reads, Asks, Writes}
-use Rattle.promises.proofs.OneAnswer.{one-code, good-valid}
+use Rattle.promises.proofs.OneAnswer.{one-code}
 use Rattle.promises.proofs.OneRequest.{show-none, shown-inj}
 
 -- ---- what a call leaves of an editor that is held
@@ -114,7 +115,7 @@ reads-is s r g x = x .gives ∙ go (requested (viewed s)) refl
         let n : codeNumber (x .code) ≡ 10 = d .1 .number ∙ ap shownNumber (show-none (length (x .before)) (viewed s) e) in
         ap (λ (k : ℕ). cond (eqb k 0) ((take (x .place .len) (x .place .prefix), take (x .len) (x .after)) ∷ []) []) n
     go (some h) e =
-        let y : show (length (x .before)) (viewed s) ≡ shown (rawTree (h .held)) = output-20 sha1 (viewed s) (length (x .before)) h sha1-wide (good-valid s g) (x .room) e in
+        let y : show (length (x .before)) (viewed s) ≡ shown (rawTree (h .held)) = output-20 sha1 (viewed s) (length (x .before)) h sha1-wide (viewed-valid s g) (x .room) e in
         let n : codeNumber (x .code) ≡ 0 = d .1 .number ∙ ap shownNumber y in
         let k : x .code ≡ Done = one-code (x .code) Done (λ z. omega (arith, z, n)) n in
         let raw : take (x .len) (x .after) ≡ rawTree (h .held) = shown-inj (take (x .len) (x .after)) (rawTree (h .held)) (ap (λ (c : Code). shownAs c (x .len) (x .after)) (sym k) ∙ d .1 .is ∙ y) in
@@ -179,7 +180,7 @@ module _ (T : Table) (xs ys : List Upsert) (vs : All (λ x. validPath (x .path) 
   any-order =
       let c : Cache = viewed s .cached in
       let (d, k, e) = runs-of T xs s ns q c g starts done run in
-      let k′ : Runs sha1 T ys c d = alike sha1 T c d xs ys (ap (valid sha1) (sym starts) ∙ good-valid s g) vs apart perm k .0 in
+      let k′ : Runs sha1 T ys c d = alike sha1 T c d xs ys (ap (valid sha1) (sym starts) ∙ viewed-valid s g) vs apart perm k .0 in
       let (z, h, e′) = done-of T ys s′ ns′ q′ c d g′ (sym alike-at-first ∙ starts) k′ run′ in
       let h₀ : Good q = done-of T xs s ns q c d g starts k run .1 in
       let same : viewed q ≡ viewed q′ = e ∙ sym e′ in

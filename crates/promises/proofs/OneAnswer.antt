@@ -42,6 +42,7 @@ use Rattle.editor.specs.Roots.{Makes}
 use Rattle.editor.specs.declared.cursor.Cursor.{Cursor}
 use Rattle.editor.proofs.Decided.{Same, same-look, same-does, same-makes}
 use Rattle.editor.proofs.LookLaws.{refusalOf, looked-low}
+use Rattle.writing.proofs.Theorems.{viewed-valid}
 use Rattle.promises.specs.Public.{Call, does, Public, new, call, Says, Opens, set-root, upsert, remove, remove-leaf, cursor-at, upsert-below, remove-below, remove-leaf-below, begin, begin-at, begin-cursor, answer, fail}
 
 -- ---- the number decides the case
@@ -72,10 +73,6 @@ pub one-code : (k k′ : Code) → (codeNumber k ≡ 11 → ⊥) → codeNumber 
 one-code k k′ h e = sym (code-back k h) ∙ ap codeOf e ∙ code-back k′ (λ z. h (e ∙ z))
 
 -- ---- no call that changes a store gives 11
-
-pub good-valid : (s : Lent) → Good s → valid sha1 (viewed s) ≡ true
-unfolding sha1
-good-valid s g = g .holds .valid
 
 abbrev Not11 : Answer → Type 0
 Not11 a = a .code ≡ 11 → ⊥
@@ -158,7 +155,7 @@ does-one f h s k k′ q q′ d d′ =
     not-11 : codeNumber k ≡ 11 → ⊥
     not-11 e =
         let m = d .done (λ y. omega (arith, e, y)) in
-        h (viewed s) (good-valid s (m .0)) (ap (λ (a : Answer). a .code) (sym (m .1)) ∙ e)
+        h (viewed s) (viewed-valid s (m .0)) (ap (λ (a : Answer). a .code) (sym (m .1)) ∙ e)
 
 makes-one : (raw : Bytes) (s : Lent) (k k′ : Code) (q q′ : Lent) → Makes raw s (codeNumber k) q → Makes raw s (codeNumber k′) q′ → One k q k′ q′
 makes-one raw s k k′ q q′ d d′ =
@@ -244,7 +241,7 @@ spare-unread x s s′ k k′ q q′ g g′ v d d′ =
     let m = d .done (λ z. d .refused z .0 g) .1 in
     let m′ = d′ .done (λ z. d′ .refused z .0 g′) .1 in
     let z : _≡_ {A = Answer} (record { code = codeNumber k; editor = viewed q }) (record { code = codeNumber k′; editor = viewed q′ }) = m ∙ ap (does x) v ∙ sym m′ in
-    let h : codeNumber k ≡ 11 → ⊥ = λ e. not-11 x (viewed s) (good-valid s g) (ap (λ (a : Answer). a .code) (sym m) ∙ e) in
+    let h : codeNumber k ≡ 11 → ⊥ = λ e. not-11 x (viewed s) (viewed-valid s g) (ap (λ (a : Answer). a .code) (sym m) ∙ e) in
     (one-code k k′ h (ap (λ (a : Answer). a .code) z), ap (λ (a : Answer). a .editor) z)
 
 -- a lookup gives the same
