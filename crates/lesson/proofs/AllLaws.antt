@@ -1,17 +1,15 @@
 -- Record after record: what was told and what is left to tell are the lines of all records. Assumes nothing.
 use Prim.Native.Nat.{ℕ, _+_, _≤_, _<_}
 use mathlib.Core.Path.{_≡_, refl, sym, _∙_, ap, subst}
-use mathlib.Core.Bool.{Bool, true, false, cond}
 use mathlib.Core.List.{List, [], _∷_, _++_}
 use mathlib.Core.Option.{Option, none, some}
 use native.Mathlib.Omega.{arith}
-use lib.Dec.{leb}
 use lib.ListN.{length}
-use borrow.Author.Tests.{leb-true, lt-leb}
+use borrow.Author.Tests.{lt-leb}
 use Rattle.model.specs.Bytes.{Bytes}
 use Rattle.model.specs.Editor.{Editor}
 use Rattle.editor.specs.Lent.{Lent, Good, viewed}
-use Rattle.records.specs.Places.{Found, Next, nothing, broken, found, Told, past, orBroken, opAt, pathAt, kindAt, idAt, nextAt, recordFound}
+use Rattle.records.specs.Places.{Found, Next, nothing, broken, found, past, orBroken, opAt, pathAt, kindAt, idAt, nextAt, recordFound}
 use Rattle.records.specs.Records.{Record, good as goodInput, reading}
 use Rattle.records.proofs.FormLaws.{standing, Left, left-begin, left-more, left-end, left-good}
 use Rattle.records.proofs.NextLaws.{at-end}

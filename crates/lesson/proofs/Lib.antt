@@ -1,3 +1,5 @@
 pub mod AllLaws
 pub mod PutLaws
 pub mod RecordLaws
+pub mod RunLaws
+pub mod SaveLaws

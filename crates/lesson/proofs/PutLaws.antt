@@ -67,6 +67,16 @@ module _ {d : Bytes} {at : ℕ} {s : Bytes} where
 pub puts-stop : (d : Bytes) (at : ℕ) (s t : Bytes) → length d < at + length s → length d < at + length (s ++ t)
 puts-stop d at s t h = omega (arith, length-append s t)
 
+-- two texts, where the second is written if the first fits
+module _ (d : Bytes) (to : ℕ) (h : to ≤ length d) (s t : Bytes) (r : Put) (e : Bytes) (q : outcome r e ≡ written d to s) where
+  pub both-put : {m : ℕ} → r ≡ At m → (p : Put) (f : Bytes) → outcome p f ≡ written e m t → Puts d to (s ++ t) p f
+  both-put {m} g p f w =
+      let a : PutAt d to s m e = put-told (puts d to h s r e q) g in
+      puts-then a t p f (puts e m (a .within) t p f w)
+
+  pub first-stops : r ≡ Refused → (f : Bytes) → Puts d to (s ++ t) Refused f
+  first-stops g f = puts-stop d to s t (put-refused d to s {r = r} e (puts d to h s r e q) g)
+
 -- Of a whole text some is written, and the rest is to come
 pub record Telling (d₀ : Bytes) (at₀ : ℕ) (whole d : Bytes) (to : ℕ) (rest : Bytes) : Type 0 where
   pub text : Bytes

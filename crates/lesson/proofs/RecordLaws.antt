@@ -1,11 +1,11 @@
 -- A record's edit is the model's, and its refusal's lines stand behind each other. Assumes nothing.
-use Prim.Native.Nat.{ℕ, _+_, _≤_, _<_}
+use Prim.Native.Nat.{ℕ, _+_, _≤_}
 use mathlib.Core.Path.{_≡_, refl, sym, _∙_, ap, subst}
 use mathlib.Core.Bool.{Bool, true, false}
 use mathlib.Core.List.{[], _++_}
 use mathlib.Core.Option.{some}
 use native.Mathlib.Omega.{arith}
-use lib.Dec.{eqb, leb}
+use lib.Dec.{eqb}
 use lib.ListN.{length, take, length-take, length-drop}
 use borrow.Author.Tests.{eqb-true, eqb-false, ne-eqb, le-leb}
 use Rattle.model.specs.Bytes.{Bytes}
@@ -19,7 +19,7 @@ use Rattle.names.proofs.WriteLaws.{splice-front}
 use Rattle.editor.specs.Lent.{Lent, Good, viewed, Does}
 use Rattle.records.specs.Answers.{outcome}
 use Rattle.records.specs.Hex.{hexed, bytesOf}
-use Rattle.records.specs.Places.{textAt, Found, Next, nothing, broken, found, nextAt, recordFound}
+use Rattle.records.specs.Places.{textAt, Found, nothing, broken, found, nextAt, recordFound}
 use Rattle.records.specs.Records.{editOf, goodId}
 use Rattle.records.specs.Texts.{Written, decimal, lineOf, written, decoded}
 use Rattle.records.specs.declared.text.Put.{Put}
@@ -28,7 +28,7 @@ use Rattle.records.proofs.FormLaws.{standing}
 use Rattle.records.proofs.TextLaws.{length-bytes}
 use Rattle.lesson.specs.Lesson.{editKey, codeKey, refusal, madeBy}
 use Rattle.lesson.specs.Puts.{PutAt, Puts, Leaves}
-use Rattle.lesson.proofs.PutLaws.{out-of, put-nothing, puts, put-told, put-refused, puts-then, puts-stop}
+use Rattle.lesson.proofs.PutLaws.{out-of, put-nothing, both-put, first-stops}
 
 -- bytes out of hex, into bytes that are long enough
 decoded-fits : (d s : Bytes) → hexed s ≡ true → length (bytesOf s) ≤ length d → decoded d 0 s ≡ record { next = some (0 + length (bytesOf s)); out = splice d 0 (bytesOf s) }
@@ -72,13 +72,10 @@ module _ (d : Bytes) (to : ℕ) (h : to ≤ length d) (k c : ℕ) where
     pub tell-both : {m : ℕ} → r ≡ At m → (j : ℕ) → j ≡ c → (p : Put) (f : Bytes) → outcome p f ≡ written e m (lineOf codeKey (decimal j)) → Puts d to (refusal k c) p f
     tell-both {m} t j i p f v =
         let w : outcome p f ≡ written e m (lineOf codeKey (decimal c)) = v ∙ ap (λ (x : ℕ). written e m (lineOf codeKey (decimal x))) i in
-        let a : PutAt d to (lineOf editKey (decimal k)) m e = put-told (puts d to h (lineOf editKey (decimal k)) r e q) t in
-        subst (λ (l : Bytes). Puts d to l p f) (sym (two-lines k c n)) (puts-then a (lineOf codeKey (decimal c)) p f (puts e m (a .within) (lineOf codeKey (decimal c)) p f w))
+        subst (λ (l : Bytes). Puts d to l p f) (sym (two-lines k c n)) (both-put d to h (lineOf editKey (decimal k)) (lineOf codeKey (decimal c)) r e q t p f w)
 
     pub tell-stop : r ≡ Refused → (f : Bytes) → Puts d to (refusal k c) Refused f
-    tell-stop t f =
-        let a = put-refused d to (lineOf editKey (decimal k)) {r = r} e (puts d to h (lineOf editKey (decimal k)) r e q) t in
-        subst (λ (l : Bytes). Puts d to l Refused f) (sym (two-lines k c n)) (puts-stop d to (lineOf editKey (decimal k)) (lineOf codeKey (decimal c)) a)
+    tell-stop t f = subst (λ (l : Bytes). Puts d to l Refused f) (sym (two-lines k c n)) (first-stops d to h (lineOf editKey (decimal k)) (lineOf codeKey (decimal c)) r e q t f)
 
 -- what the digits of a record say, in an input that is not too long
 module _ (s : Bytes) (at : ℕ) {g : Found} (e : nextAt 20 s at ≡ found g) (l : Bytes) where

@@ -69,7 +69,7 @@ orRoot k (some h) rest = requestLines h ++ rest
 unfoldable pub writeLines : ℕ → ℕ → Editor → Bytes
 writeLines zero k E = []
 writeLines (suc n) k E =
-    let r = writeLines n (suc k) ((answered sha1 (countId (suc k)) E) .editor) in
+    let r = writeLines n (k + 1) ((answered sha1 (countId (k + 1)) E) .editor) in
     orRoot k (requested E) r
 
 -- a write from the root
