@@ -14,7 +14,7 @@ use Rattle.model.specs.Raw.{ended as atEnd, readTree}
 use Rattle.model.specs.Tree.{wellFormed}
 use Rattle.editor.specs.Lent.{Lent, Long, Good, viewed}
 use Rattle.editor.specs.Roots.{Makes}
-use Rattle.records.specs.Records.{Record, Read, bad, good as goodInput, lines, atOp, read, reading, Form, badLine, records, formOf}
+use Rattle.records.specs.Records.{Record, Read, bad, good as goodInput, lines, atOp, read, reading, badLine, records, formOf}
 use Rattle.records.specs.Texts.{decimal, lineOf}
 use Rattle.records.specs.declared.text.Put.{Put}
 use Rattle.lesson.specs.Lesson.{badKey, recordLines, afterRecords, saved, outputOf, output}

@@ -10,7 +10,7 @@ use lib.Seq.{take-at}
 use Rattle.model.specs.Bytes.{Bytes, isNil}
 use Rattle.model.specs.Tree.{null}
 use Rattle.model.specs.Raw.{rawTree}
-use Rattle.model.specs.Editor.{Format, Held, Cache, Start, fromRoot, fromCursor, Write, Editor}
+use Rattle.model.specs.Editor.{Held, Cache, Start, fromRoot, fromCursor, Write, Editor}
 use Rattle.model.specs.Formats.{sha1}
 use Rattle.model.specs.Valid.{valid}
 use Rattle.model.specs.Write.{linked, asking, writeOf, closed, pickEditor, answeredIn, answered, requested, Shown, shown, short, unopened, show, begun}
@@ -22,7 +22,6 @@ use Rattle.model.proofs.ValidSums.{Sane, aTree}
 use Rattle.model.proofs.WriteKeeps.{valid-ask, sum3}
 use Rattle.model.proofs.WriteLaws.{asking-count, linked-length}
 use Rattle.slots.specs.View.{writeOf as writeIn}
-use Rattle.edits.specs.Answers.{codeNumber}
 use Rattle.edits.specs.declared.code.Code.{Code}
 use Rattle.edits.specs.declared.code.Code.the-variants.{Done, EmptyComponent, TreeNotFound, TreeDamaged, NotALeaf, NoRoom, PathRefused, BadTable, CursorStale, WriteOpen, NoWriteOpen, OutputShort, BadRoot, StoreDamaged}
 use Rattle.editor.specs.Lent.{Lent, Good, viewed}

@@ -1,6 +1,5 @@
 -- `lesson::run::over` meets its contract: the write follows the records. Assumes nothing.
 use denote.Ref.{now}
-use mathlib.Core.List.{[]}
 use Rattle.editor.specs.Lent.{lent, viewed}
 use Rattle.lesson.specs.Lesson.{recordLines, afterRecords, saved}
 use Rattle.lesson.proofs.PutLaws.{put-told, put-refused, puts-stop}
@@ -76,7 +75,7 @@ returns-2 c =
     let s = r .before .before .before .before .before .before .before .before .before .before .before .before .before .before in
     let a = s .args in
     let v = viewed (lent (a .ed) (now (a .plens)) (now (a .paths)) (now (a .tlens)) (now (a .trees)) (now (a .order))) in
-    λ rs e. puts-stop (now (a .out)) 0 (recordLines 1 rs v) (saved (afterRecords rs v)) (put-refused (now (a .out)) 0 (recordLines 1 rs v) [] (r .all .ensures .1 rs e) (c .enum-told .given .1))
+    λ rs e. puts-stop (now (a .out)) 0 (recordLines 1 rs v) (saved (afterRecords rs v)) (put-refused (now (a .out)) 0 (recordLines 1 rs v) (r .all .last .1 .1 .1 .1 .1 .1 .1 .0) (r .all .ensures .1 rs e) (c .enum-told .given .1))
 
 pub over-spec : {M : Type 1} → statement M
 over-spec =

@@ -56,8 +56,7 @@ loop-again c =
     let t = r .before .before .before .before .before .before .before .before in
     let l = t .before .before in
     let m = l .loop .inv .0 in
-    let (h, q) = open-some (lent (l .loop .now) (l .loop .plens) (l .loop .paths) (l .loop .tlens) (l .loop .trees) (l .loop .order)) (t .if1 .taken) in
-    (
+    let (h, q) = open-some (lent (l .loop .now) (l .loop .plens) (l .loop .paths) (l .loop .tlens) (l .loop .trees) (l .loop .order)) (t .if1 .taken) in (
       saving-more m h q (r .turn .ensures .0) (put-told (r .turn .ensures .1 h q) (c .before .put .given .1)) _ (search (needs, c .before .before .before .before .before .before .slice-known13, c .before .before .before .before .before .before .before .raw)),
       search (needs, c .before .before .before .before .before .before .before .before .before .before .before .before .before .before .before .before .slice-known8, c .before .before .before .before .before .before .before .before .before .before .before .before .before .before .before .before .before .plens),
       search (needs, c .before .before .before .before .before .before .before .before .before .before .before .before .before .before .slice-known9, c .before .before .before .before .before .before .before .before .before .before .before .before .before .before .before .paths),
