@@ -1,4 +1,5 @@
 pub mod AllLaws
+pub mod Decided
 pub mod Examples
 pub mod PutLaws
 pub mod RecordLaws

@@ -165,6 +165,28 @@ last-line : (n k : ℕ) (E : Editor) → requested E ≡ none → writeLines (su
 unfolding writeLines
 last-line n k E q = ap (λ (o : Option Held). orRoot k o (writeLines n (k + 1) ((answered sha1 (countId (k + 1)) E) .editor))) q
 
+-- the bound on the requests is not met: with a larger one the lines are the same
+lines-alike : (n m k : ℕ) (E : Editor) → pending E ≤ n → writeLines (suc n) k E ≡ writeLines (suc (n + m)) k E
+lines-alike zero m k E h = go (requested E) refl
+  where
+    go : (o : Option Held) → requested E ≡ o → writeLines (suc zero) k E ≡ writeLines (suc (zero + m)) k E
+    go none q = last-line zero k E q ∙ sym (last-line (zero + m) k E q)
+    go (some t) q = absurd (omega (arith, pending-less [] E t q))
+lines-alike (suc n) m k E h = go (requested E) refl (λ D x. lines-alike n m (k + 1) D x)
+  where
+    go : (o : Option Held) → requested E ≡ o → ((D : Editor) → pending D ≤ n → writeLines (suc n) (k + 1) D ≡ writeLines (suc (n + m)) (k + 1) D) → writeLines (suc (suc n)) k E ≡ writeLines (suc (suc n + m)) k E
+    go none q ih = last-line (suc n) k E q ∙ sym (last-line (suc n + m) k E q)
+    go (some t) q ih =
+        let l = pending-less (countId (k + 1)) E t q in
+        let y : suc n + m ≡ suc (n + m) = omega arith in
+        more-lines (suc n) k E t q ∙ ap (λ (z : Bytes). requestLines t ++ z) (ih ((answered sha1 (countId (k + 1)) E) .editor) (omega (arith, l)))
+        ∙ sym (more-lines (suc (n + m)) k E t q) ∙ ap (λ (j : ℕ). writeLines (suc j) k E) (sym y)
+
+pub bound-unmet : (m : ℕ) (E : Editor) → valid sha1 E ≡ true → writeLines (65 + m) 0 E ≡ writeLines 65 0 E
+bound-unmet m E v =
+    let y : 65 + m ≡ suc (64 + m) = omega arith in
+    ap (λ (j : ℕ). writeLines j 0 E) y ∙ sym (lines-alike 64 m 0 E (pending-few E v))
+
 -- k requests are answered, and told
 pub record Saving (whole d₀ : Bytes) (to₀ : ℕ) (s : Lent) (k to : ℕ) (d raw : Bytes) : Type 0 where
   pub good : Good s

@@ -65,7 +65,7 @@ abbrev pub orRoot : ℕ → Option Held → Bytes → Bytes
 orRoot k none rest = lineOf rootKey (hexOf (countId k))
 orRoot k (some h) rest = requestLines h ++ rest
 
--- the lines of a write after k answers. n bounds the requests, of which there are at most 64: it is never met (proofs/SaveLaws)
+-- the lines of a write after k answers. n bounds the requests, of which there are at most 64: it is never met (`bound-unmet` in proofs/SaveLaws)
 unfoldable pub writeLines : ℕ → ℕ → Editor → Bytes
 writeLines zero k E = []
 writeLines (suc n) k E =
