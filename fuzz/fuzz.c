@@ -11,6 +11,7 @@
 #include "check.h"
 #include "lend.h"
 #include "make.h"
+#include "stack.h"
 
 #include <signal.h>
 #include <stdio.h>
@@ -43,6 +44,7 @@ typedef struct {
 static struct { lend_area ed, plens, paths, tlens, trees, order, ids, ends, raws, prefix, path, id, raw, out, at, lens; } lent;
 
 static uint64_t seed, calls, counts[3][OPS][16];
+static size_t deepest[OPS];
 static op current;
 static FILE *to_calls, *to_answers;
 
@@ -97,7 +99,8 @@ static void lend_all(const image *im, const call *c, const table *t) {
 #define TABLE lent.ids.at, lent.ids.bytes, (uint32_t *)(void *)lent.ends.at, t->count, lent.raws.at, lent.raws.bytes
 #define LENT(a) lent.a.at, lent.a.bytes
 
-static uint32_t make_call(const image *im, const call *c, const table *t) {
+static __attribute__((noinline)) uint32_t make_call(const image *im, const call *c, const table *t) {
+    stack_from(__builtin_frame_address(0));
     switch (c->op) {
     case NEW: return tree_editor_new(EDIT, LENT(raw));
     case SET_ROOT: return tree_editor_set_root(EDIT, LENT(raw));
@@ -117,6 +120,21 @@ static uint32_t make_call(const image *im, const call *c, const table *t) {
     case FAIL: return tree_editor_fail(EDIT);
     default: return tree_editor_holds(im->ed, STORE);
     }
+}
+
+/* The call on a stack of its own, for the most that any takes: -DMEASURE_STACK=1. */
+#ifndef MEASURE_STACK
+#define MEASURE_STACK 0
+#endif
+static struct { const image *im; const call *c; const table *t; uint32_t said; } on_stack;
+static void call_on_stack(void) { on_stack.said = make_call(on_stack.im, on_stack.c, on_stack.t); }
+
+static uint32_t measured_call(const image *im, const call *c, const table *t) {
+    if (!MEASURE_STACK) return make_call(im, c, t);
+    on_stack.im = im, on_stack.c = c, on_stack.t = t;
+    size_t used = stack_of(call_on_stack);
+    if (used > deepest[c->op]) deepest[c->op] = used;
+    return on_stack.said;
 }
 
 static int known_mode(uint32_t m) {
@@ -178,7 +196,7 @@ static uint32_t perform(int kind, image *im, const call *c, const table *t) {
     lend_all(im, c, t);
     current = c->op;
     calls++;
-    uint32_t said = make_call(im, c, t);
+    uint32_t said = measured_call(im, c, t);
     int refused = said >= 5 && said < MODE;
     counts[kind][c->op][said >= MODE ? 15 : said < 15 ? said : 14]++;
     if (want >= 0 ? said != (uint32_t)want : said == 13 || said == 14) {
@@ -577,5 +595,6 @@ int main(int argc, char **argv) {
         for (int o = 0; o < OPS; o++)
             for (int n = 0; n < 16; n++)
                 if (counts[k][o][n]) fprintf(to, "%s %s %s%.0d %llu\n", kinds[k], names[o], n == 15 ? "found" : n == 0 ? "0" : "", n == 15 ? 0 : n, (unsigned long long)counts[k][o][n]);
+    for (int o = 0; o < OPS && MEASURE_STACK; o++) fprintf(to, "stack %s bytes %zu\n", names[o], deepest[o]);
     return fclose(to) || fclose(to_calls) || fclose(to_answers) ? 2 : 0;
 }

@@ -10,7 +10,7 @@ library=$(tools/library.sh)
 work=target/fuzz
 mkdir -p $work
 # shellcheck disable=SC2086
-cc -std=c11 -Wall -Wextra -Werror -O2 -g -Iinclude -o $work/fuzz fuzz/fuzz.c fuzz/check.c fuzz/lend.c fuzz/make.c ${FUZZ_FLAGS:-} "$library"
+cc -std=c11 -Wall -Wextra -Werror -O2 -g -Iinclude -o $work/fuzz fuzz/fuzz.c fuzz/check.c fuzz/lend.c fuzz/make.c fuzz/stack.c ${FUZZ_FLAGS:-} "$library"
 if command -v cargo > /dev/null; then
   (cd oracle && cargo build --offline --release -q -j1)
 else
@@ -28,7 +28,8 @@ while [ "$done" -lt "$count" ]; do
   fi
   done=$((done + n)) seed=$((seed + 1))
 done
-awk '{ n[$1]++; all += $4; kind[$1] += $4; by[$1, $3] += $4 }
+awk '$1 == "stack" { next }
+  { n[$1]++; all += $4; kind[$1] += $4; by[$1, $3] += $4 }
   END {
     for (k in kind) {
       line = ""

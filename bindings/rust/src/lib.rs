@@ -265,6 +265,7 @@ macro_rules! edit {
 }
 
 /// An editor over a store that is lent or owned.
+#[derive(Clone)]
 pub struct Editor<'t, S> {
     record: Record,
     store: S,
