@@ -8,7 +8,7 @@ export TREE_EDITOR_LIB
 examples/c/run.sh
 if command -v cargo > /dev/null; then
   bindings/rust/run.sh > target/bindings.log 2>&1 || { cat target/bindings.log; exit 1; }
-  echo "Rust wrapper: $(grep -c '^test result: ok' target/bindings.log) test files, $(sed -n 's/^test result: ok\. \([0-9]*\) passed.*/\1/p' target/bindings.log | paste -sd+ | bc) tests passed"
+  awk '/^test result: ok/ { n += $4 } END { printf "Rust wrapper: %d tests passed\n", n; exit n == 0 }' target/bindings.log
 else
   echo "no cargo: the Rust wrapper is not tested"
 fi
