@@ -36,7 +36,7 @@ typedef struct {
     op op;
     bytes prefix, path, raw;
     uint8_t id[40];
-    size_t id_len, out_len, lens_len;
+    size_t id_len, out_len, at_len, lens_len;
     uint32_t mode;
 } call;
 
@@ -90,7 +90,7 @@ static void lend_all(const image *im, const call *c, const table *t) {
     hand(&lent.id, c->id, c->id_len);
     hand(&lent.raw, c->raw.at, c->raw.len);
     hand(&lent.out, spare, c->out_len);
-    hand(&lent.at, spare, TREE_EDITOR_PATH);
+    hand(&lent.at, spare, c->at_len);
     hand(&lent.lens, spare, c->lens_len * sizeof(size_t));
 }
 
@@ -145,7 +145,7 @@ static int known_mode(uint32_t m) {
 static int foretold(const check_lent *s, const call *c) {
     if ((c->op == UPSERT || c->op == UPSERT_AT) && (!known_mode(c->mode) || c->id_len != 20)) return 14;
     if (c->op == ANSWER && c->id_len != 20) return 14;
-    if (c->op == REQUEST && c->lens_len < 2) return 14;
+    if (c->op == REQUEST && (c->lens_len < 2 || c->at_len < TREE_EDITOR_PATH)) return 14;
     if (c->op == NEW) return check_long_enough(s) ? check_root(c->raw.at, c->raw.len) : 13;
     if (c->op == HOLDS) return check_holds(s);
     return check_holds(s) ? -1 : 13;
@@ -168,7 +168,7 @@ static int outputs_same(const call *c, uint32_t said) {
     const size_t *lens = (const size_t *)(const void *)lent.lens.at;
     if (c->op == GET || c->op == GET_AT) return lend_same(&lent.id, said >= MODE ? 20 : 0);
     if (c->op != REQUEST || said >= 12 || said == 10) return lend_same(&lent.out, 0) && lend_same(&lent.at, 0) && lend_same(&lent.lens, 0);
-    if (!lend_same(&lent.lens, 2 * sizeof(size_t))) return 0;
+    if (!lend_same(&lent.lens, (said == 11 ? 1 : 2) * sizeof(size_t))) return 0;
     if (said == 11) return lens[0] > c->out_len && lend_same(&lent.out, 0) && lend_same(&lent.at, 0);
     return lens[0] <= c->out_len && lens[1] <= TREE_EDITOR_PATH && lend_same(&lent.out, lens[0]) && lend_same(&lent.at, lens[1]);
 }
@@ -257,7 +257,8 @@ static op random_op(int open) {
 
 /* A call that suits the store; `good`: the store holds an editor. */
 static call random_call(const image *im, int good, style how) {
-    call c = {.op = random_op(good && im->ed.open), .id_len = 20, .out_len = TREE_EDITOR_OUTPUT, .lens_len = 2, .mode = make_mode()};
+    call c = {.op = random_op(good && im->ed.open), .id_len = 20, .out_len = TREE_EDITOR_OUTPUT, .at_len = TREE_EDITOR_PATH, .lens_len = 2, .mode = make_mode()};
+    if (make_once(4)) c.at_len += make_below(EXTRA), c.lens_len += make_below(3);
     c.raw = c.op <= SET_ROOT ? make_raw(how) : (bytes){malloc(1), 0};
     c.path = good && make_once(3) ? cached_path(im, 1) : make_path(how);
     c.prefix = good && !make_once(6) ? cached_path(im, 0) : make_path(SMALL);
@@ -268,10 +269,11 @@ static call random_call(const image *im, int good, style how) {
 
 /* Arguments that only the C functions can be given: 14, or 11 of a lookup. */
 static void spoil(call *c) {
-    switch (make_below(4)) {
+    switch (make_below(5)) {
     case 0: c->mode = make_once(2) ? (uint32_t)make_word() : make_mode() ^ 1u << make_below(32); break;
     case 1: c->id_len = make_below(40); break;
     case 2: c->lens_len = make_below(4); break;
+    case 3: c->at_len = make_once(2) ? TREE_EDITOR_PATH - 1 : make_below(TREE_EDITOR_PATH); break;
     default: c->id_len = 19 + make_below(3); break;
     }
 }
@@ -403,7 +405,7 @@ static void put_request(void) {
 
 /* Whether the caller's view of an answered request is the one read: the call `request` with all the room it may need. */
 static void read_request(image *im, const table *t) {
-    call c = {.op = REQUEST, .out_len = TREE_EDITOR_OUTPUT, .lens_len = 2};
+    call c = {.op = REQUEST, .out_len = TREE_EDITOR_OUTPUT, .at_len = TREE_EDITOR_PATH, .lens_len = 2};
     if (perform(0, im, &c, t) != 0) differs("does not give the open request");
     put(" request ");
     put_request();
@@ -558,7 +560,7 @@ static image *read_stores(const char *name, size_t *count) {
 }
 
 static void make_areas(void) {
-    static const size_t most[] = {sizeof(tree_editor), 8 * (TREE_EDITOR_SLOTS + EXTRA), TREE_EDITOR_PATHS + EXTRA, 8 * (TREE_EDITOR_SLOTS + EXTRA), TREE_EDITOR_TREES + EXTRA, 8 * (TREE_EDITOR_SLOTS + EXTRA), 400, 80, 900000, 4096, 4096, 64, 300000, TREE_EDITOR_OUTPUT, TREE_EDITOR_PATH, 64};
+    static const size_t most[] = {sizeof(tree_editor), 8 * (TREE_EDITOR_SLOTS + EXTRA), TREE_EDITOR_PATHS + EXTRA, 8 * (TREE_EDITOR_SLOTS + EXTRA), TREE_EDITOR_TREES + EXTRA, 8 * (TREE_EDITOR_SLOTS + EXTRA), 400, 80, 900000, 4096, 4096, 64, 300000, TREE_EDITOR_OUTPUT, TREE_EDITOR_PATH + EXTRA, 64};
     lend_area *all = (lend_area *)&lent;
     for (size_t i = 0; i < sizeof most / sizeof *most; i++) lend_make(&all[i], most[i]);
 }

@@ -674,8 +674,8 @@ def run_end(rnd, s):
         del data[end - n:end]
         data += bytes(n)
         n = -n
-    lens[k] += n
-    setattr(s, name, getattr(s, name) + n)
+    lens[k] = (lens[k] + n) % WORD
+    setattr(s, name, (getattr(s, name) + n) % WORD)
 
 
 def length_wraps(rnd, s):

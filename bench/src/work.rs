@@ -154,7 +154,7 @@ kept!(after_loaded: Ready = ours_after(editor(&listed().root, &listed().objects)
 
 /// Makes everything that is kept.
 pub fn warm() {
-    black_box((thirty(), many(), one_folder(), full(), changes(), lookups(), beside(), first(), one()));
+    black_box((thirty(), many(), one_folder(), full(), changes(), lookups(), beside(), behind(), first(), one()));
     black_box((listed(), after_thirty(), after_many(), after_full(), after_loaded()));
 }
 
@@ -177,6 +177,7 @@ macro_rules! pieces {
 
 const NOTHING: &[u8] = b"";
 kept!(beside: Paths = vec![b"hand-in/exercise-15a.c".to_vec()]);
+kept!(behind: Paths = vec![b"hand-in/exercise-30.c".to_vec()]);
 // a name that comes first in the root: everything behind it moves
 kept!(first: Paths = vec![b"a-first.c".to_vec()]);
 kept!(one: Paths = vec![full()[480].clone()]);
@@ -209,6 +210,9 @@ pieces! {
     "an upsert beside 30 files", false, w_ours_upsert_30, w_theirs_upsert_30:
         copy(after_thirty()); |s| our_upserts(s, beside());
         theirs_after(original(NOTHING, no_objects()), thirty()); |s| their_upserts(s, beside());
+    "an upsert behind 30 files", false, w_ours_behind_30, w_theirs_behind_30:
+        copy(after_thirty()); |s| our_upserts(s, behind());
+        theirs_after(original(NOTHING, no_objects()), thirty()); |s| their_upserts(s, behind());
     "an upsert into a full store, moving all of it", false, w_ours_upsert_full, w_theirs_upsert_full:
         copy(after_full()); |s| our_upserts(s, first());
         theirs_after(original(NOTHING, no_objects()), full()); |s| their_upserts(s, first());
