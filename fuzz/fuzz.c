@@ -591,6 +591,7 @@ int main(int argc, char **argv) {
     make_areas();
     make_seed(seed);
     for (size_t n = 1; calls < count; n++) trace(n, make_once(2) ? (style)make_below(STYLES) : SMALL, 10 + make_below(60), made, made_count);
+    free(made);
     FILE *to = opened(argv[5], "a");
     static const char *const kinds[] = {"good", "damaged", "made"};
     for (int k = 0; k < 3; k++)
