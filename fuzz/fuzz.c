@@ -1,11 +1,12 @@
 /* Random calls of the C functions over good and damaged stores, in memory that shows every touch beside a lent buffer (lend.h).
  *
- *   fuzz SEED COUNT CALLS ANSWERS COUNTS [STORES]
+ *   fuzz SEED COUNT FOLDER [STORES]
  *
- * makes COUNT calls or a few more. Calls on stores that other calls left are written to CALLS in the form of oracle/PROTOCOL.md, and what
- * was answered to ANSWERS, for comparison with the original; after each of them a damaged copy of the store is lent to another call, whose
- * number is compared with the check in check.c. STORES are stores made by `tools/stores.py make`, lent as they are and damaged. Numbers
- * by call go to COUNTS. For every call: nothing beside a buffer is touched; no lent byte changes with a number from 5 on; bytes behind an
+ * makes COUNT calls or a few more. Calls on stores that other calls left are written to FOLDER/calls in the form of oracle/PROTOCOL.md, and
+ * what was answered to FOLDER/answers, for comparison with the original; after each of them a damaged copy of the store is lent to another
+ * call, whose number is compared with the check in check.c. STORES are stores made by `tools/stores.py make`, lent as they are and damaged.
+ * Some of the damaged and made stores that still hold an editor go to FOLDER/held with their calls and answers, for fuzz/held.py. Numbers by
+ * call go to FOLDER/counts. For every call: nothing beside a buffer is touched; no lent byte changes with a number from 5 on; bytes behind an
  * array's front never change; what is left holds an editor. Status 1 with the first thing that isn't so. */
 #define _DEFAULT_SOURCE
 #include "check.h"
@@ -46,7 +47,7 @@ static struct { lend_area ed, plens, paths, tlens, trees, order, ids, ends, raws
 static uint64_t seed, calls, counts[3][OPS][16];
 static size_t deepest[OPS];
 static op current;
-static FILE *to_calls, *to_answers;
+static FILE *to_calls, *to_answers, *held, *held_calls, *held_answers;
 
 static void differs(const char *what) {
     fflush(NULL);
@@ -342,21 +343,6 @@ static void damage(image *im) {
     }
 }
 
-static void lend_damaged(const image *good, const table *t, style how, int made) {
-    static image im;
-    im = *good;
-    check_lent s = as_lent(good);
-    call c = random_call(good, check_holds(&s), how);
-    if (!made) lengthen(&im);
-    size_t times = make_once(8) || (made && make_once(2)) ? 0 : make_once(4) ? 2 : 1;
-    if (make_once(200)) fill(&im, offsetof(image, plens_len));
-    while (times-- > 0) damage(&im);
-    if (make_once(3)) c.op = HOLDS;
-    else if (make_once(10)) spoil(&c);
-    perform(made ? 2 : 1, &im, &c, t);
-    drop(&c);
-}
-
 /* ---- calls on good stores, with their lines ---- */
 
 static char line[1 << 22];
@@ -483,6 +469,51 @@ static void say_table(const table *t) {
     fprintf(to_calls, "%s\n", line);
 }
 
+/* A store that holds an editor, by its fronts, in the form of tools/stores.py. */
+static void keep_held(const image *im) {
+    static const uint32_t lens[] = {TREE_EDITOR_SLOTS, TREE_EDITOR_PATHS, TREE_EDITOR_SLOTS, TREE_EDITOR_TREES, TREE_EDITOR_SLOTS};
+    fwrite(lens, sizeof lens, 1, held);
+    fwrite(&im->ed, sizeof im->ed, 1, held);
+    fwrite(im->plens, 8, TREE_EDITOR_SLOTS, held);
+    fwrite(im->paths, 1, TREE_EDITOR_PATHS, held);
+    fwrite(im->tlens, 8, TREE_EDITOR_SLOTS, held);
+    fwrite(im->trees, 1, TREE_EDITOR_TREES, held);
+    fwrite(im->order, 8, TREE_EDITOR_SLOTS, held);
+}
+
+/* A call on a store that holds an editor though no call may ever have left it so: written down with its answer and the state after it. */
+static void call_held(int kind, image *im, const call *c, const table *t) {
+    FILE *calls_before = to_calls, *answers_before = to_answers;
+    to_calls = held_calls, to_answers = held_answers;
+    keep_held(im);
+    fprintf(to_calls, "store\n");
+    fprintf(to_answers, "store\n");
+    say_table(t);
+    put_call(c);
+    uint32_t said = perform(kind, im, c, t);
+    say_answer(im, c, said, t);
+    show(im, t);
+    to_calls = calls_before, to_answers = answers_before;
+}
+
+static void lend_damaged(const image *good, const table *t, style how, int made) {
+    static image im;
+    im = *good;
+    check_lent s = as_lent(good);
+    call c = random_call(good, check_holds(&s), how);
+    if (!made) lengthen(&im);
+    size_t times = make_once(8) || (made && make_once(2)) ? 0 : make_once(4) ? 2 : 1;
+    if (make_once(200)) fill(&im, offsetof(image, plens_len));
+    while (times-- > 0) damage(&im);
+    int plain = 1;
+    if (make_once(3)) c.op = HOLDS;
+    else if (make_once(10)) spoil(&c), plain = 0;
+    s = as_lent(&im);
+    if (plain && c.op != HOLDS && c.op != NEW && make_once(made ? 4 : 16) && check_holds(&s)) call_held(made ? 2 : 1, &im, &c, t);
+    else perform(made ? 2 : 1, &im, &c, t);
+    drop(&c);
+}
+
 /* A lookup with less room for the id: 11 exactly where the whole one finds an entry. */
 static void short_lookup(image *im, const call *c, uint32_t said, const table *t) {
     call less = *c;
@@ -565,26 +596,31 @@ static void make_areas(void) {
     for (size_t i = 0; i < sizeof most / sizeof *most; i++) lend_make(&all[i], most[i]);
 }
 
-static FILE *opened(const char *name, const char *how) {
-    FILE *f = fopen(name, how);
+static FILE *opened(const char *folder, const char *name, const char *how) {
+    char path[4096];
+    snprintf(path, sizeof path, "%s/%s", folder, name);
+    FILE *f = fopen(path, how);
     if (!f) {
-        perror(name);
+        perror(path);
         exit(2);
     }
     return f;
 }
 
 int main(int argc, char **argv) {
-    if (argc < 6) {
-        fprintf(stderr, "fuzz SEED COUNT CALLS ANSWERS COUNTS [STORES]\n");
+    if (argc < 4) {
+        fprintf(stderr, "fuzz SEED COUNT FOLDER [STORES]\n");
         return 2;
     }
     seed = strtoull(argv[1], NULL, 10);
     uint64_t count = strtoull(argv[2], NULL, 10);
-    to_calls = opened(argv[3], "w");
-    to_answers = opened(argv[4], "w");
+    to_calls = opened(argv[3], "calls", "w");
+    to_answers = opened(argv[3], "answers", "w");
+    held = opened(argv[3], "held", "w");
+    held_calls = opened(argv[3], "held-calls", "w");
+    held_answers = opened(argv[3], "held-answers", "w");
     size_t made_count = 0;
-    image *made = argc > 6 ? read_stores(argv[6], &made_count) : NULL;
+    image *made = argc > 4 ? read_stores(argv[4], &made_count) : NULL;
     signal(SIGSEGV, on_fault);
     signal(SIGBUS, on_fault);
     signal(SIGILL, on_fault);
@@ -592,12 +628,12 @@ int main(int argc, char **argv) {
     make_seed(seed);
     for (size_t n = 1; calls < count; n++) trace(n, make_once(2) ? (style)make_below(STYLES) : SMALL, 10 + make_below(60), made, made_count);
     free(made);
-    FILE *to = opened(argv[5], "a");
+    FILE *to = opened(argv[3], "counts", "a");
     static const char *const kinds[] = {"good", "damaged", "made"};
     for (int k = 0; k < 3; k++)
         for (int o = 0; o < OPS; o++)
             for (int n = 0; n < 16; n++)
                 if (counts[k][o][n]) fprintf(to, "%s %s %s%.0d %llu\n", kinds[k], names[o], n == 15 ? "found" : n == 0 ? "0" : "", n == 15 ? 0 : n, (unsigned long long)counts[k][o][n]);
     for (int o = 0; o < OPS && MEASURE_STACK; o++) fprintf(to, "stack %s bytes %zu\n", names[o], deepest[o]);
-    return fclose(to) || fclose(to_calls) || fclose(to_answers) ? 2 : 0;
+    return fclose(to) || fclose(to_calls) || fclose(to_answers) || fclose(held) || fclose(held_calls) || fclose(held_answers) ? 2 : 0;
 }

@@ -16,16 +16,29 @@ if command -v cargo > /dev/null; then
 else
   echo "no cargo: the answers are not compared with the original's"
 fi
+
+# same WHO FILE ANSWERS
+same() {
+  cmp -s "$2" "$3" && return
+  echo "seed $seed: $1 answers otherwise:"
+  diff "$2" "$3" | head -4 | cut -c 1-400
+  exit 1
+}
+
 rm -f $work/counts
+compared=0
 done=0
 while [ "$done" -lt "$count" ]; do
   n=$((count - done < part ? count - done : part))
   python3 tools/stores.py make --seed "$seed" --count $((n / 100 < 20 ? 20 : n / 100)) > $work/stores
-  ${FUZZ_UNDER:-} $work/fuzz "$seed" $n $work/calls $work/answers $work/counts $work/stores
+  ${FUZZ_UNDER:-} $work/fuzz "$seed" $n $work $work/stores
+  python3 fuzz/held.py $work/held < $work/held-calls > $work/held-model
+  same "document 01 as a program" $work/held-model $work/held-answers
   if command -v cargo > /dev/null; then
     oracle/target/release/oracle-trace --brief < $work/calls > $work/oracle
-    diff -q $work/oracle $work/answers > /dev/null || { echo "seed $seed: the original answers otherwise:"; diff $work/oracle $work/answers | head -4 | cut -c 1-400; exit 1; } || exit 1
+    same "the original" $work/oracle $work/answers
   fi
+  compared=$((compared + $(grep -c '^store$' $work/held-answers)))
   done=$((done + n)) seed=$((seed + 1))
 done
 awk '$1 == "stack" { next }
@@ -38,3 +51,4 @@ awk '$1 == "stack" { next }
     }
     printf "%d calls: no touch beside a lent buffer, no byte changed by a refusal, numbers as the check and the original say\n", all
   }' $work/counts
+echo "of the calls on damaged and made stores that hold an editor, $compared answers and states compared with document 01 as a program"
