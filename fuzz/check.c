@@ -10,7 +10,10 @@
 
 enum { ID = 20 };
 
-typedef struct { const uint8_t *at; size_t len; } run;
+typedef struct {
+    const uint8_t *at;
+    size_t len;
+} run;
 
 int check_order(const uint8_t *a, size_t n, int a_tree, const uint8_t *b, size_t m, int b_tree) {
     for (size_t i = 0;; i++) {
@@ -40,7 +43,8 @@ static int good_name(const check_entry *e) {
 static int well_formed(check_entry *e, size_t n) {
     for (size_t i = 0; i < n; i++) {
         if (!good_name(&e[i])) return 0;
-        if (i > 0 && check_order(e[i - 1].name, e[i - 1].len, e[i - 1].kind == 0, e[i].name, e[i].len, e[i].kind == 0) >= 0) return 0;
+        if (i > 0 && check_order(e[i - 1].name, e[i - 1].len, e[i - 1].kind == 0, e[i].name, e[i].len, e[i].kind == 0) >= 0)
+            return 0;
     }
     qsort(e, n, sizeof *e, by_name);
     for (size_t i = 1; i < n && CHECK_SLIP != 1; i++)

@@ -2,12 +2,13 @@
  *
  *   fuzz SEED COUNT FOLDER [STORES]
  *
- * makes COUNT calls or a few more. Calls on stores that other calls left are written to FOLDER/calls in the form of oracle/PROTOCOL.md, and
- * what was answered to FOLDER/answers, for comparison with the original; after each of them a damaged copy of the store is lent to another
- * call, whose number is compared with the check in check.c. STORES are stores made by `tools/stores.py make`, lent as they are and damaged.
- * Some of the damaged and made stores that still hold an editor go to FOLDER/held with their calls and answers, for fuzz/held.py. Numbers by
- * call go to FOLDER/counts. For every call: nothing beside a buffer is touched; no lent byte changes with a number from 5 on; bytes behind an
- * array's front never change; what is left holds an editor. Status 1 with the first thing that isn't so. */
+ * makes COUNT calls or a few more. Calls on stores that other calls left are written to FOLDER/calls in the form of
+ * oracle/PROTOCOL.md, and what was answered to FOLDER/answers, for comparison with the original; after each of them a damaged
+ * copy of the store is lent to another call, whose number is compared with the check in check.c. STORES are stores made by
+ * `tools/stores.py make`, lent as they are and damaged. Some of the damaged and made stores that still hold an editor go to
+ * FOLDER/held with their calls and answers, for fuzz/held.py. Numbers by call go to FOLDER/counts. For every call: nothing beside
+ * a buffer is touched; no lent byte changes with a number from 5 on; bytes behind an array's front never change; what is left
+ * holds an editor. Status 1 with the first thing that isn't so. */
 #define _DEFAULT_SOURCE
 #include "check.h"
 #include "lend.h"
@@ -22,8 +23,29 @@
 
 enum { EXTRA = 16, MODE = 040000 };
 
-typedef enum { NEW, SET_ROOT, UPSERT, UPSERT_AT, REMOVE, REMOVE_AT, REMOVE_LEAF, REMOVE_LEAF_AT, CURSOR_AT, GET, GET_AT, BEGIN, BEGIN_AT, REQUEST, ANSWER, FAIL, HOLDS, OPS } op;
-static const char *const names[OPS] = {"new", "set_root", "upsert", "upsert_at", "remove", "remove_at", "remove_leaf", "remove_leaf_at", "cursor_at", "get", "get_at", "begin", "begin_at", "request", "answer", "fail", "holds"};
+typedef enum {
+    NEW,
+    SET_ROOT,
+    UPSERT,
+    UPSERT_AT,
+    REMOVE,
+    REMOVE_AT,
+    REMOVE_LEAF,
+    REMOVE_LEAF_AT,
+    CURSOR_AT,
+    GET,
+    GET_AT,
+    BEGIN,
+    BEGIN_AT,
+    REQUEST,
+    ANSWER,
+    FAIL,
+    HOLDS,
+    OPS
+} op;
+static const char *const names[OPS] = {"new",         "set_root",       "upsert",    "upsert_at", "remove", "remove_at",
+                                       "remove_leaf", "remove_leaf_at", "cursor_at", "get",       "get_at", "begin",
+                                       "begin_at",    "request",        "answer",    "fail",      "holds"};
 
 /* A record and five arrays with room for more than their fronts, and how much of them is lent. */
 typedef struct {
@@ -41,7 +63,7 @@ typedef struct {
     uint32_t mode;
 } call;
 
-/* A number given back; the rest of an answer lies in the areas. */
+/* What is lent to the call at hand. */
 static struct { lend_area ed, plens, paths, tlens, trees, order, ids, ends, raws, prefix, path, id, raw, out, at, lens; } lent;
 
 static uint64_t seed, calls, counts[3][OPS][16];
@@ -51,7 +73,8 @@ static FILE *to_calls, *to_answers, *held, *held_calls, *held_answers;
 
 static void differs(const char *what) {
     fflush(NULL);
-    fprintf(stderr, "seed %llu, call %llu, tree_editor_%s: %s\n", (unsigned long long)seed, (unsigned long long)calls, names[current], what);
+    fprintf(stderr, "seed %llu, call %llu, tree_editor_%s: %s\n", (unsigned long long)seed, (unsigned long long)calls,
+            names[current], what);
     _exit(1);
 }
 
@@ -65,13 +88,14 @@ static int reads(op o) { return o == GET || o == GET_AT || o == REQUEST || o == 
 /* ---- one call, with all that is to be so of any call ---- */
 
 static check_lent as_lent(const image *im) {
-    return (check_lent){im->ed, im->plens, im->plens_len, im->paths, im->paths_len, im->tlens, im->tlens_len, im->trees, im->trees_len, im->order, im->order_len};
+    return (check_lent){im->ed,        im->plens, im->plens_len, im->paths, im->paths_len, im->tlens,
+                        im->tlens_len, im->trees, im->trees_len, im->order, im->order_len};
 }
 
 /* Lends an area, at one of its two ends; no bytes may also be a null pointer. */
-static void *hand(lend_area *a, const void *from, size_t n) {
-    void *p = lend(a, from, n, !make_once(4));
-    return n == 0 && make_once(4) ? NULL : p;
+static void hand(lend_area *a, const void *from, size_t n) {
+    a->given = lend(a, from, n, !make_once(4));
+    if (n == 0 && make_once(4)) a->given = NULL;
 }
 
 static void lend_all(const image *im, const call *c, const table *t) {
@@ -95,10 +119,11 @@ static void lend_all(const image *im, const call *c, const table *t) {
     hand(&lent.lens, spare, c->lens_len * sizeof(size_t));
 }
 
-#define EDIT (tree_editor *)(void *)lent.ed.at, STORE
-#define STORE (uint64_t *)(void *)lent.plens.at, im->plens_len, lent.paths.at, im->paths_len, (uint64_t *)(void *)lent.tlens.at, im->tlens_len, lent.trees.at, im->trees_len, (uint64_t *)(void *)lent.order.at, im->order_len
-#define TABLE lent.ids.at, lent.ids.bytes, (uint32_t *)(void *)lent.ends.at, t->count, lent.raws.at, lent.raws.bytes
-#define LENT(a) lent.a.at, lent.a.bytes
+#define EDIT (tree_editor *)(void *)lent.ed.given, STORE
+#define WORDS(a) (uint64_t *)(void *)lent.a.given, im->a##_len
+#define STORE WORDS(plens), lent.paths.given, im->paths_len, WORDS(tlens), lent.trees.given, im->trees_len, WORDS(order)
+#define TABLE LENT(ids), (uint32_t *)(void *)lent.ends.given, t->count, LENT(raws)
+#define LENT(a) lent.a.given, lent.a.bytes
 
 static __attribute__((noinline)) uint32_t make_call(const image *im, const call *c, const table *t) {
     stack_from(__builtin_frame_address(0));
@@ -116,7 +141,7 @@ static __attribute__((noinline)) uint32_t make_call(const image *im, const call 
     case GET_AT: return tree_editor_get_at(im->ed, STORE, LENT(prefix), LENT(path), LENT(id));
     case BEGIN: return tree_editor_begin(EDIT);
     case BEGIN_AT: return tree_editor_begin_at(EDIT, LENT(prefix));
-    case REQUEST: return tree_editor_request(im->ed, STORE, LENT(out), LENT(at), (size_t *)(void *)lent.lens.at, c->lens_len);
+    case REQUEST: return tree_editor_request(im->ed, STORE, LENT(out), LENT(at), (size_t *)(void *)lent.lens.given, c->lens_len);
     case ANSWER: return tree_editor_answer(EDIT, LENT(id));
     case FAIL: return tree_editor_fail(EDIT);
     default: return tree_editor_holds(im->ed, STORE);
@@ -127,7 +152,12 @@ static __attribute__((noinline)) uint32_t make_call(const image *im, const call 
 #ifndef MEASURE_STACK
 #define MEASURE_STACK 0
 #endif
-static struct { const image *im; const call *c; const table *t; uint32_t said; } on_stack;
+static struct {
+    const image *im;
+    const call *c;
+    const table *t;
+    uint32_t said;
+} on_stack;
 static void call_on_stack(void) { on_stack.said = make_call(on_stack.im, on_stack.c, on_stack.t); }
 
 static uint32_t measured_call(const image *im, const call *c, const table *t) {
@@ -139,7 +169,8 @@ static uint32_t measured_call(const image *im, const call *c, const table *t) {
 }
 
 static int known_mode(uint32_t m) {
-    return m == TREE_EDITOR_TREE || m == TREE_EDITOR_BLOB || m == TREE_EDITOR_EXEC || m == TREE_EDITOR_LINK || m == TREE_EDITOR_COMMIT;
+    return m == TREE_EDITOR_TREE || m == TREE_EDITOR_BLOB || m == TREE_EDITOR_EXEC || m == TREE_EDITOR_LINK ||
+           m == TREE_EDITOR_COMMIT;
 }
 
 /* The number that the call has to give by the check alone; -1: another than 13 and 14. */
@@ -153,22 +184,27 @@ static int foretold(const check_lent *s, const call *c) {
 }
 
 static int store_same(void) {
-    return lend_same(&lent.ed, 0) && lend_same(&lent.plens, 0) && lend_same(&lent.paths, 0) && lend_same(&lent.tlens, 0) && lend_same(&lent.trees, 0) && lend_same(&lent.order, 0);
+    return lend_same(&lent.ed, 0) && lend_same(&lent.plens, 0) && lend_same(&lent.paths, 0) && lend_same(&lent.tlens, 0) &&
+           lend_same(&lent.trees, 0) && lend_same(&lent.order, 0);
 }
 
 static int behind_same(void) {
-    return lend_same(&lent.plens, 8 * TREE_EDITOR_SLOTS) && lend_same(&lent.paths, TREE_EDITOR_PATHS) && lend_same(&lent.tlens, 8 * TREE_EDITOR_SLOTS) && lend_same(&lent.trees, TREE_EDITOR_TREES) && lend_same(&lent.order, 8 * TREE_EDITOR_SLOTS);
+    return lend_same(&lent.plens, 8 * TREE_EDITOR_SLOTS) && lend_same(&lent.paths, TREE_EDITOR_PATHS) &&
+           lend_same(&lent.tlens, 8 * TREE_EDITOR_SLOTS) && lend_same(&lent.trees, TREE_EDITOR_TREES) &&
+           lend_same(&lent.order, 8 * TREE_EDITOR_SLOTS);
 }
 
 static int inputs_same(const call *c) {
     int output = c->op == GET || c->op == GET_AT;
-    return lend_same(&lent.ids, 0) && lend_same(&lent.ends, 0) && lend_same(&lent.raws, 0) && lend_same(&lent.prefix, 0) && lend_same(&lent.path, 0) && lend_same(&lent.raw, 0) && (output || lend_same(&lent.id, 0));
+    return lend_same(&lent.ids, 0) && lend_same(&lent.ends, 0) && lend_same(&lent.raws, 0) && lend_same(&lent.prefix, 0) &&
+           lend_same(&lent.path, 0) && lend_same(&lent.raw, 0) && (output || lend_same(&lent.id, 0));
 }
 
 static int outputs_same(const call *c, uint32_t said) {
     const size_t *lens = (const size_t *)(const void *)lent.lens.at;
     if (c->op == GET || c->op == GET_AT) return lend_same(&lent.id, said >= MODE ? 20 : 0);
-    if (c->op != REQUEST || said >= 12 || said == 10) return lend_same(&lent.out, 0) && lend_same(&lent.at, 0) && lend_same(&lent.lens, 0);
+    if (c->op != REQUEST || said >= 12 || said == 10)
+        return lend_same(&lent.out, 0) && lend_same(&lent.at, 0) && lend_same(&lent.lens, 0);
     if (!lend_same(&lent.lens, (said == 11 ? 1 : 2) * sizeof(size_t))) return 0;
     if (said == 11) return lens[0] > c->out_len && lend_same(&lent.out, 0) && lend_same(&lent.at, 0);
     return lens[0] <= c->out_len && lens[1] <= TREE_EDITOR_PATH && lend_same(&lent.out, lens[0]) && lend_same(&lent.at, lens[1]);
@@ -246,7 +282,8 @@ static bytes cached_path(const image *im, int of_entry) {
 }
 
 static op random_op(int open) {
-    static const uint8_t weights[2][OPS] = {{1, 3, 30, 10, 8, 4, 6, 3, 9, 10, 5, 5, 5, 1, 1, 1, 2}, {1, 1, 2, 1, 1, 1, 1, 1, 1, 2, 1, 1, 1, 15, 40, 3, 2}};
+    static const uint8_t weights[2][OPS] = {{1, 3, 30, 10, 8, 4, 6, 3, 9, 10, 5, 5, 5, 1, 1, 1, 2},
+                                            {1, 1, 2, 1, 1, 1, 1, 1, 1, 2, 1, 1, 1, 15, 40, 3, 2}};
     size_t sum = 0;
     for (int i = 0; i < OPS; i++) sum += weights[open][i];
     size_t at = make_below(sum);
@@ -258,7 +295,12 @@ static op random_op(int open) {
 
 /* A call that suits the store; `good`: the store holds an editor. */
 static call random_call(const image *im, int good, style how) {
-    call c = {.op = random_op(good && im->ed.open), .id_len = 20, .out_len = TREE_EDITOR_OUTPUT, .at_len = TREE_EDITOR_PATH, .lens_len = 2, .mode = make_mode()};
+    call c = {.op = random_op(good && im->ed.open),
+              .id_len = 20,
+              .out_len = TREE_EDITOR_OUTPUT,
+              .at_len = TREE_EDITOR_PATH,
+              .lens_len = 2,
+              .mode = make_mode()};
     if (make_once(4)) c.at_len += make_below(EXTRA), c.lens_len += make_below(3);
     c.raw = c.op <= SET_ROOT ? make_raw(how) : (bytes){malloc(1), 0};
     c.path = good && make_once(3) ? cached_path(im, 1) : make_path(how);
@@ -316,8 +358,10 @@ static void damage_word(uint64_t *w, uint64_t other) {
 static void damage(image *im) {
     uint64_t *fields = (uint64_t *)(void *)&im->ed;
     size_t k = make_below(TREE_EDITOR_SLOTS), j = make_below(TREE_EDITOR_SLOTS);
-    size_t tree = im->ed.trees && im->ed.trees <= TREE_EDITOR_TREES && !make_once(8) ? make_below(im->ed.trees) : make_below(TREE_EDITOR_TREES);
-    size_t path = im->ed.paths && im->ed.paths <= TREE_EDITOR_PATHS && !make_once(8) ? make_below(im->ed.paths) : make_below(TREE_EDITOR_PATHS);
+    size_t tree = im->ed.trees && im->ed.trees <= TREE_EDITOR_TREES && !make_once(8) ? make_below(im->ed.trees)
+                                                                                     : make_below(TREE_EDITOR_TREES);
+    size_t path = im->ed.paths && im->ed.paths <= TREE_EDITOR_PATHS && !make_once(8) ? make_below(im->ed.paths)
+                                                                                     : make_below(TREE_EDITOR_PATHS);
     uint64_t *lens = make_once(2) ? im->plens : im->tlens;
     switch (make_below(11)) {
     case 0: im->trees[tree] ^= (uint8_t)(1 << make_below(8)); break;
@@ -369,10 +413,13 @@ static void put_number(const char *form, unsigned n) {
 
 /* The call in the protocol's form. */
 static void put_call(const call *c) {
-    static const char *const words[OPS] = {"new ", "setroot ", "upsert . ", "upsert ", "remove . ", "remove ", "leaf . ", "leaf ", "cursor ", "get . ", "get ", "begin .", "begin ", "read ", "answer ", "fail", ""};
+    static const char *const words[OPS] = {"new ",    "setroot ", "upsert . ", "upsert ", "remove . ", "remove ",
+                                           "leaf . ", "leaf ",    "cursor ",   "get . ",  "get ",      "begin .",
+                                           "begin ",  "read ",    "answer ",   "fail",    ""};
     used_of_line = 0;
     put(words[c->op]);
-    if (c->op == UPSERT_AT || c->op == REMOVE_AT || c->op == REMOVE_LEAF_AT || c->op == GET_AT || c->op == BEGIN_AT) put_hex(c->prefix.at, c->prefix.len);
+    if (c->op == UPSERT_AT || c->op == REMOVE_AT || c->op == REMOVE_LEAF_AT || c->op == GET_AT || c->op == BEGIN_AT)
+        put_hex(c->prefix.at, c->prefix.len);
     if (c->op == UPSERT_AT || c->op == REMOVE_AT || c->op == REMOVE_LEAF_AT || c->op == GET_AT) put(" ");
     if (c->op >= UPSERT && c->op <= GET_AT) put_hex(c->path.at, c->path.len);
     if (c->op == UPSERT || c->op == UPSERT_AT) put_number(" %o ", c->mode);
@@ -400,22 +447,30 @@ static void read_request(image *im, const table *t) {
 static void say_answer(image *im, const call *c, uint32_t said, const table *t) {
     put(" => ");
     if (c->op == GET || c->op == GET_AT) {
-        if (said == 0) put("none");
-        else if (said < MODE) put_number("%u", said);
-        else put_number("0 %o ", said), put_hex(lent.id.at, 20);
+        if (said == 0)
+            put("none");
+        else if (said < MODE)
+            put_number("%u", said);
+        else
+            put_number("0 %o ", said), put_hex(lent.id.at, 20);
     } else {
         put_number("%u", said);
         if (c->op == REQUEST && said == 0) put(" "), put_request();
         if (c->op == REQUEST && said == 11) put_number(" %u", (unsigned)*(const size_t *)(const void *)lent.lens.at);
         if ((c->op == BEGIN || c->op == BEGIN_AT || c->op == ANSWER) && said == 0) {
-            if (im->ed.open) read_request(im, t);
-            else put(" done "), put_hex(c->id, 20);
+            if (im->ed.open)
+                read_request(im, t);
+            else
+                put(" done "), put_hex(c->id, 20);
         }
     }
     fprintf(to_answers, "%s\n", line);
 }
 
-typedef struct { const uint8_t *path, *tree; size_t plen, tlen; } slot;
+typedef struct {
+    const uint8_t *path, *tree;
+    size_t plen, tlen;
+} slot;
 
 static int by_path(const void *x, const void *y) {
     const slot *a = x, *b = y;
@@ -454,7 +509,8 @@ static void show(const image *good, const table *t) {
         if (used(&im, k)) slots[n++] = (slot){im.paths + p, im.trees + r, im.plens[k], im.tlens[k]};
     qsort(slots, n, sizeof *slots, by_path);
     fprintf(to_calls, "show\n");
-    fprintf(to_answers, "show\n %s trees=%zu entries=%zu names=%zu paths=%zu\n", good->ed.open ? "if-fail" : "state", n, im.ed.entries, im.ed.names, im.ed.paths);
+    fprintf(to_answers, "show\n %s trees=%zu entries=%zu names=%zu paths=%zu\n", good->ed.open ? "if-fail" : "state", n,
+            im.ed.entries, im.ed.names, im.ed.paths);
     for (size_t k = 0; k < n; k++) show_tree(&slots[k]);
 }
 
@@ -471,7 +527,8 @@ static void say_table(const table *t) {
 
 /* A store that holds an editor, by its fronts, in the form of tools/stores.py. */
 static void keep_held(const image *im) {
-    static const uint32_t lens[] = {TREE_EDITOR_SLOTS, TREE_EDITOR_PATHS, TREE_EDITOR_SLOTS, TREE_EDITOR_TREES, TREE_EDITOR_SLOTS};
+    static const uint32_t lens[] = {TREE_EDITOR_SLOTS, TREE_EDITOR_PATHS, TREE_EDITOR_SLOTS, TREE_EDITOR_TREES,
+                                    TREE_EDITOR_SLOTS};
     fwrite(lens, sizeof lens, 1, held);
     fwrite(&im->ed, sizeof im->ed, 1, held);
     fwrite(im->plens, 8, TREE_EDITOR_SLOTS, held);
@@ -481,7 +538,8 @@ static void keep_held(const image *im) {
     fwrite(im->order, 8, TREE_EDITOR_SLOTS, held);
 }
 
-/* A call on a store that holds an editor though no call may ever have left it so: written down with its answer and the state after it. */
+/* A call on a store that holds an editor though no call may ever have left it so: written down with its answer and the state
+ * after it. */
 static void call_held(int kind, image *im, const call *c, const table *t) {
     FILE *calls_before = to_calls, *answers_before = to_answers;
     to_calls = held_calls, to_answers = held_answers;
@@ -506,11 +564,15 @@ static void lend_damaged(const image *good, const table *t, style how, int made)
     if (make_once(200)) fill(&im, offsetof(image, plens_len));
     while (times-- > 0) damage(&im);
     int plain = 1;
-    if (make_once(3)) c.op = HOLDS;
-    else if (make_once(10)) spoil(&c), plain = 0;
+    if (make_once(3))
+        c.op = HOLDS;
+    else if (make_once(10))
+        spoil(&c), plain = 0;
     s = as_lent(&im);
-    if (plain && c.op != HOLDS && c.op != NEW && make_once(made ? 4 : 16) && check_holds(&s)) call_held(made ? 2 : 1, &im, &c, t);
-    else perform(made ? 2 : 1, &im, &c, t);
+    if (plain && c.op != HOLDS && c.op != NEW && make_once(made ? 4 : 16) && check_holds(&s))
+        call_held(made ? 2 : 1, &im, &c, t);
+    else
+        perform(made ? 2 : 1, &im, &c, t);
     drop(&c);
 }
 
@@ -522,8 +584,8 @@ static void short_lookup(image *im, const call *c, uint32_t said, const table *t
     if (again != (said >= MODE ? 11 : said)) differs("with less room for the id gives another number");
 }
 
-/* A trace: calls on one store from junk or `new` on, each followed by one on a damaged copy. In some, many cursors are opened first, to come
- * near the limits. */
+/* A trace: calls on one store from junk or `new` on, each followed by one on a damaged copy. In some, many cursors are opened
+ * first, to come near the limits. */
 static void trace(size_t number, style how, size_t length, const image *made, size_t made_count) {
     static image im;
     table t = {{malloc(1), 0}, {malloc(1), 0}, malloc(4), 0};
@@ -541,8 +603,10 @@ static void trace(size_t number, style how, size_t length, const image *made, si
             say_table(&t);
         }
         call c = random_call(&im, made_once, how);
-        if (!made_once && !make_once(8)) c.op = NEW, free(c.raw.at), c.raw = make_raw(how);
-        else if (step < fill_up && !make_once(8)) c.op = CURSOR_AT, free(c.path.at), c.path = make_path(how);
+        if (!made_once && !make_once(8))
+            c.op = NEW, free(c.raw.at), c.raw = make_raw(how);
+        else if (step < fill_up && !make_once(8))
+            c.op = CURSOR_AT, free(c.path.at), c.path = make_path(how);
         if (c.op == HOLDS) {
             perform(0, &im, &c, &t);
         } else {
@@ -576,11 +640,15 @@ static image *read_stores(const char *name, size_t *count) {
     while (fread(lens, 4, 5, f) == 5) {
         all = realloc(all, (*count + 1) * sizeof *all);
         image *im = memset(&all[*count], 0, sizeof *all);
-        im->plens_len = lens[0], im->paths_len = lens[1], im->tlens_len = lens[2], im->trees_len = lens[3], im->order_len = lens[4];
-        int fits = lens[0] <= TREE_EDITOR_SLOTS + EXTRA && lens[1] <= TREE_EDITOR_PATHS + EXTRA && lens[2] <= TREE_EDITOR_SLOTS + EXTRA && lens[3] <= TREE_EDITOR_TREES + EXTRA && lens[4] <= TREE_EDITOR_SLOTS + EXTRA;
+        im->plens_len = lens[0], im->paths_len = lens[1], im->tlens_len = lens[2], im->trees_len = lens[3],
+        im->order_len = lens[4];
+        int fits = lens[0] <= TREE_EDITOR_SLOTS + EXTRA && lens[1] <= TREE_EDITOR_PATHS + EXTRA &&
+                   lens[2] <= TREE_EDITOR_SLOTS + EXTRA && lens[3] <= TREE_EDITOR_TREES + EXTRA &&
+                   lens[4] <= TREE_EDITOR_SLOTS + EXTRA;
         take(f, &im->ed, sizeof im->ed);
         if (fits) {
-            take(f, im->plens, 8 * lens[0]), take(f, im->paths, lens[1]), take(f, im->tlens, 8 * lens[2]), take(f, im->trees, lens[3]), take(f, im->order, 8 * lens[4]);
+            take(f, im->plens, 8 * lens[0]), take(f, im->paths, lens[1]), take(f, im->tlens, 8 * lens[2]),
+                take(f, im->trees, lens[3]), take(f, im->order, 8 * lens[4]);
             ++*count;
         } else {
             fseek(f, (long)(8 * lens[0] + lens[1] + 8 * lens[2] + lens[3] + 8 * lens[4]), SEEK_CUR);
@@ -591,7 +659,22 @@ static image *read_stores(const char *name, size_t *count) {
 }
 
 static void make_areas(void) {
-    static const size_t most[] = {sizeof(tree_editor), 8 * (TREE_EDITOR_SLOTS + EXTRA), TREE_EDITOR_PATHS + EXTRA, 8 * (TREE_EDITOR_SLOTS + EXTRA), TREE_EDITOR_TREES + EXTRA, 8 * (TREE_EDITOR_SLOTS + EXTRA), 400, 80, 900000, 4096, 4096, 64, 300000, TREE_EDITOR_OUTPUT, TREE_EDITOR_PATH + EXTRA, 64};
+    static const size_t most[] = {sizeof(tree_editor),
+                                  8 * (TREE_EDITOR_SLOTS + EXTRA),
+                                  TREE_EDITOR_PATHS + EXTRA,
+                                  8 * (TREE_EDITOR_SLOTS + EXTRA),
+                                  TREE_EDITOR_TREES + EXTRA,
+                                  8 * (TREE_EDITOR_SLOTS + EXTRA),
+                                  400,
+                                  80,
+                                  900000,
+                                  4096,
+                                  4096,
+                                  64,
+                                  300000,
+                                  TREE_EDITOR_OUTPUT,
+                                  TREE_EDITOR_PATH + EXTRA,
+                                  64};
     lend_area *all = (lend_area *)&lent;
     for (size_t i = 0; i < sizeof most / sizeof *most; i++) lend_make(&all[i], most[i]);
 }
@@ -626,14 +709,21 @@ int main(int argc, char **argv) {
     signal(SIGILL, on_fault);
     make_areas();
     make_seed(seed);
-    for (size_t n = 1; calls < count; n++) trace(n, make_once(2) ? (style)make_below(STYLES) : SMALL, 10 + make_below(60), made, made_count);
+    for (size_t n = 1; calls < count; n++)
+        trace(n, make_once(2) ? (style)make_below(STYLES) : SMALL, 10 + make_below(60), made, made_count);
     free(made);
     FILE *to = opened(argv[3], "counts", "a");
     static const char *const kinds[] = {"good", "damaged", "made"};
     for (int k = 0; k < 3; k++)
         for (int o = 0; o < OPS; o++)
             for (int n = 0; n < 16; n++)
-                if (counts[k][o][n]) fprintf(to, "%s %s %s%.0d %llu\n", kinds[k], names[o], n == 15 ? "found" : n == 0 ? "0" : "", n == 15 ? 0 : n, (unsigned long long)counts[k][o][n]);
+                if (counts[k][o][n])
+                    fprintf(to, "%s %s %s%.0d %llu\n", kinds[k], names[o],
+                            n == 15  ? "found"
+                            : n == 0 ? "0"
+                                     : "",
+                            n == 15 ? 0 : n, (unsigned long long)counts[k][o][n]);
     for (int o = 0; o < OPS && MEASURE_STACK; o++) fprintf(to, "stack %s bytes %zu\n", names[o], deepest[o]);
-    return fclose(to) || fclose(to_calls) || fclose(to_answers) || fclose(held) || fclose(held_calls) || fclose(held_answers) ? 2 : 0;
+    return fclose(to) || fclose(to_calls) || fclose(to_answers) || fclose(held) || fclose(held_calls) || fclose(held_answers) ? 2
+                                                                                                                              : 0;
 }

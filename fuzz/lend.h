@@ -1,6 +1,6 @@
-/* Memory for lent buffers: each has exactly the bytes it is to have, with a page that may not be touched right behind it or right before
- * it, painted bytes on the other side, and a copy of what it held. With LEND_HEAP in the environment each buffer is an allocation of its
- * own instead, for a run under valgrind. */
+/* Memory for lent buffers: each has exactly the bytes it is to have, with a page that may not be touched right behind it or right
+ * before it, painted bytes on the other side, and a copy of what it held. With LEND_HEAP in the environment each buffer is an
+ * allocation of its own instead, for a run under valgrind. */
 #ifndef LEND_H
 #define LEND_H
 
@@ -8,7 +8,7 @@
 #include <stdint.h>
 
 typedef struct {
-    uint8_t *base, *at, *copy;
+    uint8_t *base, *at, *copy, *given; /* given: `at`, or NULL for no bytes */
     size_t room, bytes;
 } lend_area;
 

@@ -21,11 +21,15 @@ size_t make_below(size_t n) { return (size_t)(make_word() % n); }
 int make_once(size_t n) { return make_below(n) == 0; }
 
 void make_id(uint8_t id[20]) {
-    static const uint8_t empty[20] = {0x4b, 0x82, 0x5d, 0xc6, 0x42, 0xcb, 0x6e, 0xb9, 0xa0, 0x60, 0xe5, 0x4b, 0xf8, 0xd6, 0x92, 0x88, 0xfb, 0xee, 0x49, 0x04};
+    static const uint8_t empty[20] = {0x4b, 0x82, 0x5d, 0xc6, 0x42, 0xcb, 0x6e, 0xb9, 0xa0, 0x60,
+                                      0xe5, 0x4b, 0xf8, 0xd6, 0x92, 0x88, 0xfb, 0xee, 0x49, 0x04};
     size_t which = make_below(10);
-    if (which == 0) memset(id, 0, 20);
-    else if (which == 1) memcpy(id, empty, 20);
-    else memset(id, (int)which, 20);
+    if (which == 0)
+        memset(id, 0, 20);
+    else if (which == 1)
+        memcpy(id, empty, 20);
+    else
+        memset(id, (int)which, 20);
     if (which == 9) id[19] = (uint8_t)make_word();
 }
 
@@ -36,7 +40,8 @@ uint32_t make_mode(void) {
 
 /* A name into `to`, which has room for 300 bytes; its length. */
 static size_t put_name(uint8_t *to, style how) {
-    static const char *const few[] = {"a", "b", "c", "d", "a.c", "a0", "a-", "z", "\xc3\xa9", "\xc3", "\x80", "\xff", "ab", "a.", "p", "q", "s"};
+    static const char *const few[] = {"a",    "b",    "c",    "d",  "a.c", "a0", "a-", "z", "\xc3\xa9",
+                                      "\xc3", "\x80", "\xff", "ab", "a.",  "p",  "q",  "s"};
     size_t n;
     if (how == SMALL || make_once(4)) {
         const char *name = few[make_below(make_once(2) ? 5 : sizeof few / sizeof few[0])];
@@ -86,7 +91,9 @@ bytes make_path(style how) {
     return copy(to, n);
 }
 
-typedef struct { uint8_t mode, len, id[20], name[255]; } entry;
+typedef struct {
+    uint8_t mode, len, id[20], name[255];
+} entry;
 
 static int by_key(const void *x, const void *y) {
     const entry *a = x, *b = y;
@@ -103,8 +110,7 @@ static size_t put_entries(entry *e, size_t n, style how) {
     uint8_t name[300];
     for (size_t i = 0; i < n; i++) {
         size_t len;
-        do
-            len = how == MANY && n > 100 ? (size_t)sprintf((char *)name, "%04u", (unsigned)i) : put_name(name, how);
+        do len = how == MANY && n > 100 ? (size_t)sprintf((char *)name, "%04u", (unsigned)i) : put_name(name, how);
         while (len > 255);
         e[i].len = (uint8_t)len;
         memcpy(e[i].name, name, len);
@@ -167,11 +173,20 @@ table make_table(style how) {
         free(raw.at);
     }
     if (make_once(12)) switch (make_below(4)) {
-        case 0: t.ids.len = make_below(20 * n + 20); memset(t.ids.at, 9, t.ids.len); break;
-        case 1: if (n) t.ends[make_below(n)] = (uint32_t)make_word(); break;
-        case 2: if (n) t.ends[n - 1] = (uint32_t)t.raws.len + 1; break;
-        default: if (n > 1) t.ends[0] = t.ends[n - 1] + 1; break;
-    }
+        case 0:
+            t.ids.len = make_below(20 * n + 20);
+            memset(t.ids.at, 9, t.ids.len);
+            break;
+        case 1:
+            if (n) t.ends[make_below(n)] = (uint32_t)make_word();
+            break;
+        case 2:
+            if (n) t.ends[n - 1] = (uint32_t)t.raws.len + 1;
+            break;
+        default:
+            if (n > 1) t.ends[0] = t.ends[n - 1] + 1;
+            break;
+        }
     return t;
 }
 

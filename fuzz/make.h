@@ -5,13 +5,20 @@
 #include <stddef.h>
 #include <stdint.h>
 
-typedef struct { uint8_t *at; size_t len; } bytes;
+typedef struct {
+    uint8_t *at;
+    size_t len;
+} bytes;
 
 /* What the names and sizes of a trace are like. */
 typedef enum { SMALL, MANY, LONG, DEEP, STYLES } style;
 
 /* An object table. */
-typedef struct { bytes ids, raws; uint32_t *ends; size_t count; } table;
+typedef struct {
+    bytes ids, raws;
+    uint32_t *ends;
+    size_t count;
+} table;
 
 void make_seed(uint64_t seed);
 uint64_t make_word(void);

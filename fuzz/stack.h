@@ -1,4 +1,5 @@
-/* The stack that a call takes: it runs on a stack of its own that was painted before, and the lowest byte that changed is looked for. */
+/* The stack that a call takes: it runs on a stack of its own that was painted before, and the lowest byte that changed is looked
+ * for. */
 #ifndef STACK_H
 #define STACK_H
 

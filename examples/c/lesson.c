@@ -15,7 +15,10 @@ static uint8_t out[TREE_EDITOR_OUTPUT], at[TREE_EDITOR_PATH];
 #define NO_TABLE NULL, 0, NULL, 0, NULL, 0
 #define BYTES(text) (const uint8_t *)(text), strlen(text)
 
-static const struct { const char *path, *text; uint32_t mode; } files[] = {
+static const struct {
+    const char *path, *text;
+    uint32_t mode;
+} files[] = {
     {"README", "Lesson 9: semihosting\n", TREE_EDITOR_BLOB},
     {"src/main.c", "int main(void) { return 0; }\n", TREE_EDITOR_BLOB},
     {"src/board/led.c", "void led(int on) { (void)on; }\n", TREE_EDITOR_BLOB},
@@ -54,17 +57,22 @@ int main(void) {
     need(tree_editor_new(&ed, TREE_EDITOR_LENT(&store), NULL, 0), "new");
     for (size_t i = 0; i < sizeof files / sizeof files[0]; i++) {
         git_id(id, "blob", files[i].text, strlen(files[i].text));
-        need(tree_editor_upsert(&ed, TREE_EDITOR_LENT(&store), NO_TABLE, BYTES(files[i].path), id, sizeof id, files[i].mode), files[i].path);
+        need(tree_editor_upsert(&ed, TREE_EDITOR_LENT(&store), NO_TABLE, BYTES(files[i].path), id, sizeof id, files[i].mode),
+             files[i].path);
     }
     /* A cursor: its path is lent as the prefix of the calls `_at`. */
     need(tree_editor_cursor_at(&ed, TREE_EDITOR_LENT(&store), NO_TABLE, BYTES("src/board")), "cursor at src/board");
     git_id(id, "blob", "#pragma once\n", 13);
-    need(tree_editor_upsert_at(&ed, TREE_EDITOR_LENT(&store), NO_TABLE, BYTES("src/board"), BYTES("led.h"), id, sizeof id, TREE_EDITOR_BLOB), "led.h");
+    need(tree_editor_upsert_at(&ed, TREE_EDITOR_LENT(&store), NO_TABLE, BYTES("src/board"), BYTES("led.h"), id, sizeof id,
+                               TREE_EDITOR_BLOB),
+         "led.h");
 
-    printf("get notes/\xc3\xa9tude.txt: %o ", tree_editor_get(ed, TREE_EDITOR_LENT(&store), BYTES("notes/\xc3\xa9tude.txt"), id, sizeof id));
+    printf("get notes/\xc3\xa9tude.txt: %o ",
+           tree_editor_get(ed, TREE_EDITOR_LENT(&store), BYTES("notes/\xc3\xa9tude.txt"), id, sizeof id));
     print_id(id);
     printf("get absent: %o\n", tree_editor_get(ed, TREE_EDITOR_LENT(&store), BYTES("absent"), id, sizeof id));
-    printf("upsert src//x: %u\n", tree_editor_upsert(&ed, TREE_EDITOR_LENT(&store), NO_TABLE, BYTES("src//x"), id, sizeof id, TREE_EDITOR_BLOB));
+    printf("upsert src//x: %u\n",
+           tree_editor_upsert(&ed, TREE_EDITOR_LENT(&store), NO_TABLE, BYTES("src//x"), id, sizeof id, TREE_EDITOR_BLOB));
     write_trees();
     return 0;
 }

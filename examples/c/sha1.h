@@ -11,14 +11,14 @@ static inline uint32_t sha1_rotate(uint32_t x, int n) { return x << n | x >> (32
 static inline void sha1_block(uint32_t h[5], const uint8_t *block) {
     uint32_t w[80], a = h[0], b = h[1], c = h[2], d = h[3], e = h[4];
     for (int i = 0; i < 16; i++)
-        w[i] = (uint32_t)block[4 * i] << 24 | (uint32_t)block[4 * i + 1] << 16 | (uint32_t)block[4 * i + 2] << 8 | block[4 * i + 3];
-    for (int i = 16; i < 80; i++)
-        w[i] = sha1_rotate(w[i - 3] ^ w[i - 8] ^ w[i - 14] ^ w[i - 16], 1);
+        w[i] =
+            (uint32_t)block[4 * i] << 24 | (uint32_t)block[4 * i + 1] << 16 | (uint32_t)block[4 * i + 2] << 8 | block[4 * i + 3];
+    for (int i = 16; i < 80; i++) w[i] = sha1_rotate(w[i - 3] ^ w[i - 8] ^ w[i - 14] ^ w[i - 16], 1);
     for (int i = 0; i < 80; i++) {
-        uint32_t f = i < 20 ? ((b & c) | (~b & d)) + 0x5a827999
-                   : i < 40 ? (b ^ c ^ d) + 0x6ed9eba1
-                   : i < 60 ? ((b & c) | (b & d) | (c & d)) + 0x8f1bbcdc
-                            : (b ^ c ^ d) + 0xca62c1d6;
+        uint32_t f = i < 20   ? ((b & c) | (~b & d)) + 0x5a827999
+                     : i < 40 ? (b ^ c ^ d) + 0x6ed9eba1
+                     : i < 60 ? ((b & c) | (b & d) | (c & d)) + 0x8f1bbcdc
+                              : (b ^ c ^ d) + 0xca62c1d6;
         uint32_t t = sha1_rotate(a, 5) + f + e + w[i];
         e = d, d = c, c = sha1_rotate(b, 30), b = a, a = t;
     }

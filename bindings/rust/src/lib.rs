@@ -355,7 +355,8 @@ impl<'t, S: BorrowMut<Store>> Editor<'t, S> {
     /// Reads the open request into an output of any length.
     pub fn request<'o>(&self, raw: &'o mut [u8], path: &'o mut [u8; PATH]) -> Result<Request<'o>, Error> {
         let mut lens = [0; 2];
-        let number = call!(read tree_editor_request, self, raw.as_mut_ptr(), raw.len(), path.as_mut_ptr(), PATH, lens.as_mut_ptr(), 2);
+        let number =
+            call!(read tree_editor_request, self, raw.as_mut_ptr(), raw.len(), path.as_mut_ptr(), PATH, lens.as_mut_ptr(), 2);
         Error::of(number, lens[0])?;
         Ok(Request { raw: &raw[..lens[0]], path: &path[..lens[1]] })
     }
@@ -414,7 +415,9 @@ impl<'t, S: BorrowMut<Store>> Editor<'t, S> {
         let mut id = NULL;
         let said = match prefix {
             None => call!(read tree_editor_get, self, path.as_ptr(), path.len(), id.as_mut_ptr(), id.len()),
-            Some(p) => call!(read tree_editor_get_at, self, p.as_ptr(), p.len(), path.as_ptr(), path.len(), id.as_mut_ptr(), id.len()),
+            Some(p) => {
+                call!(read tree_editor_get_at, self, p.as_ptr(), p.len(), path.as_ptr(), path.len(), id.as_mut_ptr(), id.len())
+            }
         };
         match EntryKind::of(said) {
             Some(kind) => Ok(Some(Entry { kind, id })),

@@ -1,10 +1,9 @@
 //! Document 01's twelve cases, and the wrapper's own parts, through the safe calls.
-use tree_editor::{EntryKind, Editor, Error, Id, NULL, Output, Store, Table, WriteError};
+use tree_editor::{Editor, EntryKind, Error, Id, NULL, Output, Store, Table, WriteError};
 
 const B: Id = [0x11; 20];
-const EMPTY: Id = [
-    0x4b, 0x82, 0x5d, 0xc6, 0x42, 0xcb, 0x6e, 0xb9, 0xa0, 0x60, 0xe5, 0x4b, 0xf8, 0xd6, 0x92, 0x88, 0xfb, 0xee, 0x49, 0x04,
-];
+const EMPTY: Id =
+    [0x4b, 0x82, 0x5d, 0xc6, 0x42, 0xcb, 0x6e, 0xb9, 0xa0, 0x60, 0xe5, 0x4b, 0xf8, 0xd6, 0x92, 0x88, 0xfb, 0xee, 0x49, 0x04];
 
 type Boxed<'t> = Editor<'t, Box<Store>>;
 
@@ -149,7 +148,8 @@ fn case_10() {
 
 fn pq(files: [&str; 3]) -> Boxed<'static> {
     static IDS: [u8; 40] = [0x0a; 40];
-    let mut ed = editor(&raw(&[("40000", b"p", [0x0a; 20]), ("40000", b"q", [0x0a; 20])]), Table { ids: &IDS, ends: &[0, 0], raws: b"" });
+    let mut ed =
+        editor(&raw(&[("40000", b"p", [0x0a; 20]), ("40000", b"q", [0x0a; 20])]), Table { ids: &IDS, ends: &[0, 0], raws: b"" });
     for file in files {
         blob(&mut ed, file).unwrap();
     }
