@@ -1,10 +1,10 @@
 -- What a lookup below a prefix says, and where the tree of the prefix is. Assumes nothing.
-use Prim.Native.Nat.{ℕ}
+use Prim.Native.Nat.{ℕ, _-_}
 use mathlib.Core.Path.{_≡_}
 use mathlib.Core.Bool.{true, false, cond}
-use mathlib.Core.List.{List, [], _∷_}
+use mathlib.Core.List.{List, [], _∷_, _++_}
 use lib.Dec.{leb}
-use lib.ListN.{length, take}
+use lib.ListN.{length, take, replicate}
 use Rattle.model.specs.Bytes.{Bytes}
 use Rattle.model.specs.Map.{find, isSome}
 use Rattle.model.specs.Paths.{refused}
@@ -35,3 +35,7 @@ prefixOf c = cond (leb (c .len) 1024) (take (c .len) (c .prefix)) (0 ∷ [])
 -- where a cursor at a path stands: at the root where the path is too long for it
 abbrev pub standing : Bytes → Bytes
 standing p = cond (leb (length p) 1024) p []
+
+-- the cursor at a path: its bytes past the path are zeros
+unfoldable pub cursorAt : Bytes → Cursor
+cursorAt p = record { prefix = p ++ replicate (1024 - length p) 0; len = length p }

@@ -6,7 +6,7 @@ ghost use lib.ListN.{take};
 ghost use Rattle.model.specs.Paths.{base};
 ghost use Rattle.walk.specs.Lookups.{lookedAs};
 ghost use Rattle.editor.specs.Lent.{lent};
-ghost use Rattle.editor.specs.Looks.{Looks, standing, prefixOf};
+ghost use Rattle.editor.specs.Looks.{Looks, standing, prefixOf, cursorAt};
 use slots::Editor;
 use walk::look::Looked;
 
@@ -17,7 +17,7 @@ pub struct Cursor {
 
 // The cursor at a path of at most 1,024 bytes; at the root where the path is longer.
 pub fn at(path: &[u8]) -> Cursor
-    ensures { λ r. ⌜ (r .len ≤ 1024) × (take (r .len) (r .prefix) ≡ standing (now (path .entry))) ⌝ }
+    ensures { λ r. ⌜ (r .len ≤ 1024) × (take (r .len) (r .prefix) ≡ standing (now (path .entry))) × (r ≡ cursorAt (standing (now (path .entry)))) ⌝ }
 {
     let mut prefix = [0u8; 1024];
     if 1024 < path.len() {
@@ -29,7 +29,7 @@ pub fn at(path: &[u8]) -> Cursor
 
 // The cursor that stands at the root.
 pub fn to_cursor() -> Cursor
-    ensures { λ r. ⌜ prefixOf r ≡ [] ⌝ }
+    ensures { λ r. ⌜ (prefixOf r ≡ []) × (r ≡ cursorAt []) ⌝ }
 {
     at(b"")
 }

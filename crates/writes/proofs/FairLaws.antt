@@ -1,11 +1,11 @@
--- A fair write gives a turn what it asks: its paths are valid, and each tree but the start tree has its parent set aside. Assumes nothing.
-use mathlib.Core.Path.{_≡_, refl, sym}
-use mathlib.Core.Bool.{Bool, true, false, _&&_, _||_}
-use mathlib.Core.List.{List, [], _∷_, _++_}
+-- A fair write gives a turn what it asks: its paths are valid, and each tree but the start tree has its parent set aside. A turn keeps it fair, since it moves trees or drops an empty one. Assumes nothing.
+use mathlib.Core.Path.{_≡_, refl, sym, subst}
+use mathlib.Core.Bool.{Bool, true, false, not, _&&_, _||_, cond}
+use mathlib.Core.List.{List, [], _∷_}
 use native.Mathlib.Omega.{arith}
-use Prim.Native.Nat.{ℕ, _+_}
+use Prim.Native.Nat.{ℕ, suc}
 use Rattle.model.specs.Bytes.{Bytes, isNil}
-use Rattle.model.specs.Tree.{wellFormed}
+use Rattle.model.specs.Tree.{withoutId, null, wellFormed}
 use Rattle.model.specs.Paths.{validPath}
 use Rattle.model.specs.Editor.{Format, Held, Cache}
 use Rattle.model.specs.Order.{All}
@@ -15,8 +15,9 @@ use Rattle.model.proofs.Basics.{no-way, and-left, and-right}
 use Rattle.model.proofs.PathLaws.{valid-fine}
 use Rattle.model.proofs.SoundTrees.{total}
 use Rattle.model.proofs.ValidSums.{isBad, is-good}
-use Rattle.model.proofs.WriteKeeps.{Fair, placed, sum3}
-use Rattle.writes.specs.Writes.{Brief, turned, topTurn, Ready}
+use Rattle.model.proofs.WriteKeeps.{Fair, FairAsk, placed, sum3, fair-unlinked, ask-aside, ask-stack, fair-stacked}
+use Rattle.writes.specs.Writes.{Brief, turned, topTurn, Ready, unlinkedOn, goes, asks, finishedAs, ended, nextOf, StepHas, Steady, asksOn}
+use Rattle.writes.proofs.OnwardLaws.{weight, steady-by}
 
 brief-all : (w : ℕ) (s : List Held) → total (isBad w) s ≡ 0 → All Brief s
 brief-all w [] e = tt
@@ -58,3 +59,43 @@ fair-ready F sp g f = record {
   brief = brief-all (F .width) (g .stack) (omega (arith, f .sane .good, sum3 (isBad (F .width)) (g .stack) (g .kept) (g .cache)));
   parent = turn-parent sp (g .stack) (g .kept) (g .cache) (f .place);
 }
+
+-- ---- a turn keeps a write fair
+
+module _ (F : Format) (sp : Bytes) where
+  abbrev FairOn : Going → Type 0
+  FairOn g = Fair F sp (g .stack) (g .kept) (g .cache)
+
+  module _ (nil : Bytes) where
+    finish-fair : (h : Held) (g : Going) → FairAsk F sp (asksOn h g) → StepHas FairOn (finishedAs nil h g)
+    finish-fair h g a = go (isNil (withoutId nil (h .held))) (isNil (g .kept)) refl
+      where
+        go : (b d : Bool) → isNil (g .kept) ≡ d → StepHas FairOn (cond (b && not d) (goes (unlinkedOn (h .path) g)) (asks (record { path = h .path; held = withoutId nil (h .held) }) g))
+        go true false q = fair-unlinked F sp nil h g q a
+        go true true q = tt
+        go false d q = tt
+
+    top-fair : (h : Held) (s k : List Held) (c : Cache) → Fair F sp (h ∷ s) k c → StepHas FairOn (nextOf nil (record { cache = c; stack = h ∷ s; kept = k }))
+    top-fair h s k c f = go ((scanned (h .path) (h .held) c) .kids) refl
+      where
+        g : Going
+        g = record { cache = c; stack = s; kept = k }
+
+        left : Cache
+        left = (scanned (h .path) (h .held) c) .left
+
+        go : (kids : List Held) → (scanned (h .path) (h .held) c) .kids ≡ kids → StepHas FairOn (ended nil ((topTurn h g kids left) .finish) ((topTurn h g kids left) .hand) ((topTurn h g kids left) .rest))
+        go [] q = finish-fair h g (ask-stack F sp nil h s k c f)
+        go (y ∷ ys) q = fair-stacked F sp nil h s k c f y ys q
+
+    turn-fair : (s k : List Held) (c : Cache) → Fair F sp s k c → StepHas FairOn (nextOf nil (record { cache = c; stack = s; kept = k }))
+    turn-fair [] [] c f = no-way (sym (f .place))
+    turn-fair [] (h ∷ hs) c f = finish-fair h (record { cache = c; stack = []; kept = hs }) (ask-aside F sp nil h hs c f)
+    turn-fair (h ∷ s) k c f = top-fair h s k c f
+
+    pub next-fair : (g x : Going) → Fair F sp (g .stack) (g .kept) (g .cache) → goes x ≡ nextOf nil g → Fair F sp (x .stack) (x .kept) (x .cache)
+    next-fair g x f q = subst (StepHas FairOn) (sym q) (turn-fair (g .stack) (g .kept) (g .cache) f)
+
+  -- so each turn up to the next request has what it asks
+  pub steady-fair : (g : Going) → Fair F sp (g .stack) (g .kept) (g .cache) → (n : ℕ) × Steady (null (F .width)) n g
+  steady-fair g f = (suc (weight g), steady-by (null (F .width)) FairOn (fair-ready F sp) (next-fair (null (F .width))) (suc (weight g)) g (omega arith) f)

@@ -21,11 +21,12 @@ use Rattle.store.proofs.StoredLaws.{sha1-width, sha1-room}
 use Rattle.kept.proofs.Kept.{holds-of}
 use Rattle.editor.specs.Lent.{Lent, Good, viewed, Behind, Does}
 use Rattle.writing.specs.Steps.{exactly, HoldsExactly, Made}
+use Rattle.writing.proofs.BackLaws.{refuses}
 
 pub laid-20 : (s : Lent) → HoldsExactly s → Laid 20 (s .ed) (s .plens) (s .paths) (s .tlens) (s .trees)
 laid-20 s h = subst (λ (w : ℕ). Laid w (s .ed) (s .plens) (s .paths) (s .tlens) (s .trees)) sha1-width (h .laid)
 
-valid-20 : (s : Lent) → HoldsExactly s → valid sha1 (exactly s) ≡ true
+pub valid-20 : (s : Lent) → HoldsExactly s → valid sha1 (exactly s) ≡ true
 valid-20 s h = ap (λ (w : ℕ). valid sha1 (editorOf w (s .ed) (s .plens) (s .paths) (s .tlens) (s .trees) (s .order))) (sym sha1-width) ∙ h .valid
 
 -- what the model makes of a valid editor is valid
@@ -62,12 +63,7 @@ module _ (s q : Lent) (one : Editor) (start : ℕ) (h : HoldsExactly s) (n : s .
       ∙ failed-open (s .ed .«open») _ _ _ _ n)
 
 pub fail-refused : (s : Lent) → Good s → s .ed .«open» ≡ 0 → Does failed s 10 s
-fail-refused s g e =
-    record {
-      refused = λ z. absurd (omega (arith, z));
-      done = λ n. (g, failed-shut (s .ed .«open») _ _ _ _ e, g, record { plens = refl; paths = refl; tlens = refl; trees = refl; order = refl });
-      kept = λ h. refl;
-    }
+fail-refused s g e = refuses failed s 10 g (λ z. omega (arith, z)) (failed-shut (s .ed .«open») _ _ _ _ e)
 
 -- a call that was made in the fronts
 pub does : (f : Model → Answer) (s q : Lent) → Good s → Good q → Behind s q → record { code = 0; editor = viewed q } ≡ f (viewed s) → Does f s 0 q

@@ -1,3 +1,8 @@
 -- The laws that the proofs of several functions share.
-pub mod RequestLaws
+pub mod AnswerLaws
+pub mod BackLaws
+pub mod BeginLaws
+pub mod Decided
 pub mod FailLaws
+pub mod RequestLaws
+pub mod Theorems

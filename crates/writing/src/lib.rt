@@ -1,3 +1,5 @@
 // The write over a lent store, one request at a time.
+pub mod answer;
+pub mod begin;
 pub mod fail;
 pub mod request;

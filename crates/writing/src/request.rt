@@ -1,40 +1,65 @@
 // Reading the open request.
 ghost use mathlib.Core.Path.{_≡_};
+ghost use mathlib.Core.List.{[]};
 ghost use mathlib.Core.Option.{some};
+ghost use Prim.Native.Nat.{_≤_, _<_};
+ghost use lib.ListN.{length};
 ghost use Rattle.model.specs.Editor.{Held};
 ghost use Rattle.model.specs.Editor.{Editor as Model};
 ghost use Rattle.model.specs.Write.{requested, show};
-ghost use Rattle.slots.specs.View.{treeOf};
+ghost use Rattle.runs.specs.Runs.{Sound};
+ghost use Rattle.slots.specs.View.{heldAt};
 ghost use Rattle.trees.specs.Trees.{Readable};
 ghost use Rattle.editor.specs.Lent.{lent};
-ghost use Rattle.writing.specs.Requests.{Shows, Requests};
+ghost use Rattle.editor.specs.Looks.{cursorAt};
+ghost use Rattle.writing.specs.Requests.{placeIn, Shows, Requests};
+use editor::cursor::Cursor;
 use edits::code::Code;
 use slots::Editor;
 
-// The answer, and how long the raw tree is that was written to the front of the output.
+// The answer, how long the raw tree is that was written to the front of the output, and where the tree belongs; the root where it is refused.
 pub struct Asked {
     pub code: Code,
     pub len: usize,
+    pub at: Cursor,
+}
+
+// The answer that refuses.
+fn refused(code: Code) -> Asked
+    ensures { λ r. ⌜ (r .code ≡ code) × (r .len ≡ 0) × (r .at ≡ cursorAt []) ⌝ }
+{
+    Asked {
+        code,
+        len: 0,
+        at: editor::cursor::to_cursor(),
+    }
 }
 
 // The request over slices that hold an editor with an open write.
-fn request_held(ed: Editor, tlens: &[u64], trees: &[u8], out: &mut [u8]) -> Asked
-    requires { ⌜ Readable 20 ed (now tlens) (now trees) (ed .asked) ⌝ }
-    ensures { λ r. ⌜ ((E : Model) (h : Held) → requested E ≡ some h → h .held ≡ treeOf 20 (now (tlens .entry)) (now (trees .entry)) (ed .asked)
-        → Shows (λ m. show m E) (r .code) (r .len) (now (out .entry)) (now (out .exit))) ⌝ }
+fn request_held(
+    ed: Editor,
+    plens: &[u64],
+    paths: &[u8],
+    tlens: &[u64],
+    trees: &[u8],
+    out: &mut [u8],
+) -> Asked
+    requires { ⌜ Readable 20 ed (now tlens) (now trees) (ed .asked) × Sound (now plens) (now paths) (ed .paths) × (ed .asked < length (now plens)) ⌝ }
+    ensures { λ r. ⌜ ((E : Model) (h : Held) → requested E ≡ some h → h ≡ heldAt 20 (now (plens .entry)) (now (paths .entry)) (now (tlens .entry)) (now (trees .entry)) (ed .asked) → length (h .path) ≤ 1024
+        → Shows (λ m. show m E) (r .code) (r .len) (now (out .entry)) (now (out .exit)) × (r .at ≡ cursorAt (placeIn (show (length (now (out .entry))) E) (requested E)))) ⌝ }
 {
     let slot = ed.asked;
     let n = trees::raw::raw_len_of(ed, tlens, trees, 20, slot);
     if out.len() < n {
-        return Asked {
-            code: Code::OutputShort(n),
-            len: 0,
-        };
+        return refused(Code::OutputShort(n));
     }
     let len = trees::raw::put_raw(ed, tlens, trees, 20, slot, out);
+    let np = ed.paths;
+    let at = editor::cursor::at(runs::runs::run(plens, paths, np, slot));
     Asked {
         code: Code::Done,
         len,
+        at,
     }
 }
 
@@ -48,19 +73,20 @@ pub fn request(
     order: &[u64],
     out: &mut [u8],
 ) -> Asked
-    ensures { λ r. ⌜ Requests (lent ed (now (plens .entry)) (now (paths .entry)) (now (tlens .entry)) (now (trees .entry)) (now (order .entry))) (r .code) (r .len) (now (out .entry)) (now (out .exit)) ⌝ }
+    ensures { λ r. ⌜ Requests (lent ed (now (plens .entry)) (now (paths .entry)) (now (tlens .entry)) (now (trees .entry)) (now (order .entry))) (r .code) (r .len) (r .at) (now (out .entry)) (now (out .exit)) ⌝ }
 {
     if !store::holds::holds(ed, plens, paths, tlens, trees, order) {
-        return Asked {
-            code: Code::StoreDamaged,
-            len: 0,
-        };
+        return refused(Code::StoreDamaged);
     }
     if ed.open == 0 {
-        return Asked {
-            code: Code::NoWriteOpen,
-            len: 0,
-        };
+        return refused(Code::NoWriteOpen);
     }
-    request_held(ed, &tlens[..64], &trees[..38912], out)
+    request_held(
+        ed,
+        &plens[..64],
+        &paths[..8192],
+        &tlens[..64],
+        &trees[..38912],
+        out,
+    )
 }

@@ -14,7 +14,7 @@ to-cursor-requires c κs = search needs
 returns : tie.Need-returns
 returns c =
     let n = c .before .before in
-    (λ z. absurd (c .before .if1 .taken (n .number .ensures ∙ z)), λ z. c .to-cursor .ensures)
+    (λ z. absurd (c .before .if1 .taken (n .number .ensures ∙ z)), λ z. c .to-cursor .ensures .0)
 
 at-requires : tie.Need-at-requires
 at-requires c κs = search needs

@@ -12,7 +12,7 @@ at-requires : tie.Need-at-requires
 at-requires c κs = search needs
 
 returns : tie.Need-returns
-returns c = sym (prefix-within (c .at .result) (c .at .ensures .0)) ∙ c .at .ensures .1
+returns c = (sym (prefix-within (c .at .result) (c .at .ensures .0)) ∙ c .at .ensures .1, c .at .ensures .2)
 
 pub to-cursor-spec : {M : Type 1} → statement M
 to-cursor-spec = tie.close (tie.spec slice-aggregate-at at-requires returns)

@@ -1,0 +1,41 @@
+-- What the calls that read tell, by each answer of the call below. Assumes nothing.
+use Prim.Native.Nat.{ℕ, _<_, _≤_}
+use mathlib.Core.Path.{_≡_, refl, sym, ap, _∙_, subst}
+use mathlib.Core.Bool.{Bool, true, false, true≢false}
+use lib.ListN.{length}
+use native.Mathlib.Omega.{arith}
+use Rattle.model.specs.Bytes.{Bytes}
+use Rattle.names.specs.Answers.{asMode}
+use Rattle.names.specs.Bits.{bitsOf}
+use Rattle.names.specs.Splice.{splice}
+use Rattle.names.specs.declared.mode.EntryKind.{EntryKind}
+use Rattle.edits.specs.Answers.{codeNumber}
+use Rattle.edits.specs.Ids.{idBytes}
+use Rattle.edits.specs.declared.code.Code.{Code}
+use Rattle.edits.specs.declared.id.Id.{Id}
+use Rattle.walk.specs.Lookups.{lookedAs}
+use Rattle.walk.specs.declared.look.Looked.{Looked}
+use Rattle.walk.specs.declared.look.Looked.the-variants.{Found, Missing, Refused}
+use Rattle.store.specs.Decides.{Decides}
+use Rattle.adapter.specs.Reads.{Tells, Gives}
+
+pub tells-one : (P : Type 0) (b : Bool) → Decides P b → b ≡ true → Tells P 1
+tells-one P b d e = record { one = λ h. d .yes e; so = λ h. refl; bit = λ n. absurd (n refl) }
+
+pub tells-none : (P : Type 0) (b : Bool) → Decides P b → b ≡ false → Tells P 0
+tells-none P b d e = record { one = λ h. absurd (omega (arith, h)); so = λ p. absurd (true≢false (sym (d .no p) ∙ e)); bit = λ n. refl }
+
+module _ (v : Looked) (d : Bytes) where
+  pub gives-missing : v ≡ Missing → (name : Bytes) → Gives (lookedAs name v) d 0 d
+  gives-missing e name = subst (λ (x : Looked). Gives (lookedAs name x) d 0 d) (sym e) (refl, refl)
+
+  pub gives-refused : (code : Code) (n : ℕ) → v ≡ Refused code → n ≡ codeNumber code → (name : Bytes) → Gives (lookedAs name v) d n d
+  gives-refused code n e h name = subst (λ (x : Looked). Gives (lookedAs name x) d n d) (sym e) (h, refl)
+
+  module _ (kind : EntryKind) (i : Id) (is : v ≡ Found kind i) where
+    pub gives-short : length d < 20 → (name : Bytes) → Gives (lookedAs name v) d 11 d
+    gives-short h name = subst (λ (x : Looked). Gives (lookedAs name x) d 11 d) (sym is) ((λ _. (refl, refl)), (λ g. absurd (omega (arith, h, g))))
+
+    pub gives-found : (n : ℕ) (a b : Bytes) → 20 ≤ length d → n ≡ bitsOf (asMode kind) → b ≡ idBytes i → a ≡ splice d 0 b → (name : Bytes) → Gives (lookedAs name v) d n a
+    gives-found n a b h m w p name =
+        subst (λ (x : Looked). Gives (lookedAs name x) d n a) (sym is) ((λ g. absurd (omega (arith, h, g))), (λ _. (m, p ∙ ap (splice d 0) w)))

@@ -1,0 +1,25 @@
+-- `adapter::read::tree_editor_get` meets its contract: it tells what the lookup gives. Assumes nothing.
+use Rattle.model.specs.Paths.{base}
+use Rattle.walk.specs.Lookups.{lookedAs}
+use borrow.Author.Needs.{needs}
+use Rattle.adapter.proofs.read.tree_editor_get.Statement.{statement}
+use Rattle.adapter.proofs.read.tree_editor_get.Tie as tie
+
+get-requires : tie.Need-get-requires
+get-requires c κs = search needs
+
+given-requires : tie.Need-given-requires
+given-requires c κs = search needs
+
+same-length : tie.Need-same-length
+same-length c = search needs
+
+returns : tie.Need-returns
+returns c =
+    let g = c .before .before in
+    let k = g .before .before in
+    let a = k .before .before .before .before .before .before .before .before .args in
+    record { looked = lookedAs (base (a .path .now)) (k .get .result); looks = k .get .ensures; gives = g .given .ensures (base (a .path .now)) }
+
+pub tree-editor-get-spec : {M : Type 1} → statement M
+tree-editor-get-spec = tie.close (tie.spec get-requires given-requires same-length returns)

@@ -1,0 +1,3 @@
+-- Definitions that the contracts of `adapter` cite.
+pub mod Asks
+pub mod Reads

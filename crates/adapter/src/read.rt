@@ -1,0 +1,82 @@
+// Calls that read, for C: the record goes by value.
+ghost use mathlib.Core.List.{[]};
+ghost use Rattle.model.specs.Bytes.{Bytes};
+ghost use Rattle.walk.specs.Lookups.{lookedAs};
+ghost use Rattle.editor.specs.Lent.{lent, Good};
+ghost use Rattle.adapter.specs.Reads.{Tells, Gives, Gets};
+use names::mode::Mode;
+use slots::Editor;
+use walk::look::Looked;
+
+// The number that a lookup gives; the id of the entry goes to the front of the slice.
+fn given(found: Looked, id: &mut [u8]) -> u32
+    ensures { λ r. ⌜ ((name : Bytes) → Gives (lookedAs name found) (now (id .entry)) r (now (id .exit))) ⌝ }
+{
+    match found {
+        Looked::Missing => 0,
+        Looked::Refused(code) => edits::code::number(code) as u32,
+        Looked::Found(kind, what) => {
+            if id.len() < 20 {
+                return 11;
+            }
+            let b = edits::id::bytes(what);
+            names::write::put(id, 0, &b);
+            Mode::of(kind).bits
+        }
+    }
+}
+
+// The entry at a path: its mode, with its id at the front of the slice; 0 where there is none; or the number of the refusal.
+#[no_mangle]
+pub extern "C" fn tree_editor_get(
+    ed: Editor,
+    plens: &[u64],
+    paths: &[u8],
+    tlens: &[u64],
+    trees: &[u8],
+    order: &[u64],
+    path: &[u8],
+    id: &mut [u8],
+) -> u32
+    ensures { λ r. ⌜ Gets [] (now (path .entry)) (lent ed (now (plens .entry)) (now (paths .entry)) (now (tlens .entry)) (now (trees .entry)) (now (order .entry))) (now (id .entry)) r (now (id .exit)) ⌝ }
+{
+    let found = editor::look::get(ed, plens, paths, tlens, trees, order, path);
+    given(found, id)
+}
+
+// The entry at a path below a prefix.
+#[no_mangle]
+pub extern "C" fn tree_editor_get_at(
+    ed: Editor,
+    plens: &[u64],
+    paths: &[u8],
+    tlens: &[u64],
+    trees: &[u8],
+    order: &[u64],
+    prefix: &[u8],
+    path: &[u8],
+    id: &mut [u8],
+) -> u32
+    ensures { λ r. ⌜ Gets (now (prefix .entry)) (now (path .entry)) (lent ed (now (plens .entry)) (now (paths .entry)) (now (tlens .entry)) (now (trees .entry)) (now (order .entry))) (now (id .entry)) r (now (id .exit)) ⌝ }
+{
+    let found = editor::look::looked(ed, plens, paths, tlens, trees, order, prefix, path);
+    given(found, id)
+}
+
+// 1 where record and slices hold an editor, else 0.
+#[no_mangle]
+pub extern "C" fn tree_editor_holds(
+    ed: Editor,
+    plens: &[u64],
+    paths: &[u8],
+    tlens: &[u64],
+    trees: &[u8],
+    order: &[u64],
+) -> u8
+    ensures { λ r. ⌜ Tells (Good (lent ed (now (plens .entry)) (now (paths .entry)) (now (tlens .entry)) (now (trees .entry)) (now (order .entry)))) r ⌝ }
+{
+    if store::holds::holds(ed, plens, paths, tlens, trees, order) {
+        return 1;
+    }
+    0
+}

@@ -1,0 +1,77 @@
+// The write, one request at a time, for C.
+ghost use Rattle.model.specs.Editor.{fromRoot, fromCursor};
+ghost use Rattle.model.specs.Formats.{sha1};
+ghost use Rattle.model.specs.Write.{begun, failed};
+ghost use Rattle.editor.specs.Lent.{lent, Does};
+ghost use Rattle.numbered.specs.Numbers.{Numbers, answerBy};
+use slots::Editor;
+
+// Begins a write from the root.
+#[no_mangle]
+pub extern "C" fn tree_editor_begin(
+    ed: &mut Editor,
+    plens: &mut [u64],
+    paths: &mut [u8],
+    tlens: &mut [u64],
+    trees: &mut [u8],
+    order: &mut [u64],
+) -> u8
+    ensures { λ r. ⌜ Does (begun sha1 fromRoot) (lent (now (ed .entry)) (now (plens .entry)) (now (paths .entry)) (now (tlens .entry)) (now (trees .entry)) (now (order .entry))) r (lent (now (ed .exit)) (now (plens .exit)) (now (paths .exit)) (now (tlens .exit)) (now (trees .exit)) (now (order .exit))) ⌝ }
+{
+    let d = numbered::write::begin(*ed, plens, paths, tlens, trees, order);
+    *ed = d.ed;
+    d.code
+}
+
+// Begins a write from the tree cached at a prefix.
+#[no_mangle]
+pub extern "C" fn tree_editor_begin_at(
+    ed: &mut Editor,
+    plens: &mut [u64],
+    paths: &mut [u8],
+    tlens: &mut [u64],
+    trees: &mut [u8],
+    order: &mut [u64],
+    prefix: &[u8],
+) -> u8
+    ensures { λ r. ⌜ Does (begun sha1 (fromCursor (now (prefix .entry)))) (lent (now (ed .entry)) (now (plens .entry)) (now (paths .entry)) (now (tlens .entry)) (now (trees .entry)) (now (order .entry))) r (lent (now (ed .exit)) (now (plens .exit)) (now (paths .exit)) (now (tlens .exit)) (now (trees .exit)) (now (order .exit))) ⌝ }
+{
+    let d = numbered::write::begin_at(*ed, plens, paths, tlens, trees, order, prefix);
+    *ed = d.ed;
+    d.code
+}
+
+// Answers the open request with the id of the tree that was requested: 14 where it has not 20 bytes.
+#[no_mangle]
+pub extern "C" fn tree_editor_answer(
+    ed: &mut Editor,
+    plens: &mut [u64],
+    paths: &mut [u8],
+    tlens: &mut [u64],
+    trees: &mut [u8],
+    order: &mut [u64],
+    id: &[u8],
+) -> u8
+    ensures { λ r. ⌜ Numbers (answerBy (now (id .entry))) (lent (now (ed .entry)) (now (plens .entry)) (now (paths .entry)) (now (tlens .entry)) (now (trees .entry)) (now (order .entry))) r (lent (now (ed .exit)) (now (plens .exit)) (now (paths .exit)) (now (tlens .exit)) (now (trees .exit)) (now (order .exit))) ⌝ }
+{
+    let d = numbered::write::answer(*ed, plens, paths, tlens, trees, order, id);
+    *ed = d.ed;
+    d.code
+}
+
+// Fails the open request: the start tree goes back as it stands, the other taken trees are lost.
+#[no_mangle]
+pub extern "C" fn tree_editor_fail(
+    ed: &mut Editor,
+    plens: &mut [u64],
+    paths: &mut [u8],
+    tlens: &mut [u64],
+    trees: &mut [u8],
+    order: &[u64],
+) -> u8
+    ensures { λ r. ⌜ Does failed (lent (now (ed .entry)) (now (plens .entry)) (now (paths .entry)) (now (tlens .entry)) (now (trees .entry)) (now (order .entry))) r (lent (now (ed .exit)) (now (plens .exit)) (now (paths .exit)) (now (tlens .exit)) (now (trees .exit)) (now (order .entry))) ⌝ }
+{
+    let d = numbered::write::fail(*ed, plens, paths, tlens, trees, order);
+    *ed = d.ed;
+    d.code
+}

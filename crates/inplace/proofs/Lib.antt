@@ -1,0 +1,2 @@
+-- The laws that the proofs of all functions share.
+pub mod Said

@@ -1,0 +1,2 @@
+-- Definitions that the contracts of `numbered` cite.
+pub mod Numbers

@@ -1,0 +1,138 @@
+/* A Git tree editor in lent memory, without heap: the port of gix-object's tree editor, for the adapter.
+ *
+ * An editor is a small record and five arrays that the caller lends to each call. Nothing is kept anywhere else, so calls may be
+ * as far apart as the caller likes, and record and arrays may be moved together between two calls. A call looks only at the front of
+ * an array that is longer than docs/STORE.md says, and leaves the rest as it is; where one is shorter, it gives
+ * TREE_EDITOR_STORE_DAMAGED. No call asks anything of what record and arrays hold. No array that a call may change overlaps another
+ * that is lent to it, or the record. An array of no elements may have any pointer.
+ *
+ * Every function but tree_editor_holds gives a number that says what it did; crates/adapter proves what each does.
+ *
+ * Names and paths are bytes: compared as unsigned bytes, counted as bytes, never taken for text. */
+#ifndef TREE_EDITOR_H
+#define TREE_EDITOR_H
+
+#include <stddef.h>
+#include <stdint.h>
+
+enum {
+    TREE_EDITOR_SLOTS = 64,     /* words of plens, of tlens and of order; at most so many trees are cached */
+    TREE_EDITOR_PATHS = 8192,   /* bytes of paths */
+    TREE_EDITOR_TREES = 38912,  /* bytes of trees */
+    TREE_EDITOR_ENTRIES = 1024, /* entries over all cached trees */
+    TREE_EDITOR_NAMES = 16384,  /* name bytes over all entries */
+    TREE_EDITOR_NAME = 255,     /* bytes of a name */
+    TREE_EDITOR_PATH = 1024,    /* bytes of a path with its cursor's prefix */
+    TREE_EDITOR_ID = 20,        /* bytes of an id */
+    TREE_EDITOR_OUTPUT = 45056  /* bytes of output that every request fits in */
+};
+
+/* The numbers that calls give back. From 5 on, no lent byte and no field of the record has changed, but for the length that goes with 11. */
+enum {
+    TREE_EDITOR_DONE = 0,
+    TREE_EDITOR_EMPTY_COMPONENT = 1, /* the walk reached an empty component; earlier steps stay */
+    TREE_EDITOR_TREE_NOT_FOUND = 2,  /* an id that was looked up isn't in the table; earlier steps stay */
+    TREE_EDITOR_TREE_DAMAGED = 3,    /* the tree that was found isn't well formed; earlier steps stay */
+    TREE_EDITOR_NOT_A_LEAF = 4,      /* a leaf removal ended at a tree; loaded trees stay */
+    TREE_EDITOR_NO_ROOM = 5,         /* a limit would be passed */
+    TREE_EDITOR_PATH_REFUSED = 6,    /* NUL, a component over 255 bytes, or over 1,024 bytes in all */
+    TREE_EDITOR_BAD_TABLE = 7,       /* ids not 20 bytes per end offset, offsets falling or past the end */
+    TREE_EDITOR_CURSOR_STALE = 8,    /* no tree is cached at the prefix */
+    TREE_EDITOR_WRITE_OPEN = 9,      /* a write is open, and this call is none of its own */
+    TREE_EDITOR_NO_WRITE_OPEN = 10,  /* a write's own call, and none is open */
+    TREE_EDITOR_OUTPUT_SHORT = 11,   /* the output is too short; the length needed is given */
+    TREE_EDITOR_BAD_ROOT = 12,       /* the new root isn't a well-formed raw tree */
+    TREE_EDITOR_STORE_DAMAGED = 13,  /* record and arrays hold no editor */
+    TREE_EDITOR_BAD_ARGUMENT = 14    /* for C alone: a mode that is none of the five, an id that isn't 20 bytes, or, for a request, fewer than
+                                        two lengths or fewer than TREE_EDITOR_PATH bytes of path; nothing else was looked at */
+};
+
+/* The modes of entries. */
+enum {
+    TREE_EDITOR_TREE = 040000,
+    TREE_EDITOR_BLOB = 0100644,
+    TREE_EDITOR_EXEC = 0100755,
+    TREE_EDITOR_LINK = 0120000,
+    TREE_EDITOR_COMMIT = 0160000
+};
+
+/* The record of an editor. Its fields are the editor's own (docs/STORE.md). */
+typedef struct tree_editor {
+    uint64_t free, hidden;
+    size_t paths, trees, entries, names;
+    uint64_t open;
+    size_t aside, stacked, asked;
+} tree_editor;
+
+/* The arrays of an editor, for a caller that keeps them together; TREE_EDITOR_LENT(s) lends them to a call. */
+typedef struct tree_editor_store {
+    uint64_t plens[TREE_EDITOR_SLOTS], tlens[TREE_EDITOR_SLOTS], order[TREE_EDITOR_SLOTS];
+    uint8_t paths[TREE_EDITOR_PATHS], trees[TREE_EDITOR_TREES];
+} tree_editor_store;
+
+#define TREE_EDITOR_LENT(s)                                                                                                    \
+    (s)->plens, TREE_EDITOR_SLOTS, (s)->paths, TREE_EDITOR_PATHS, (s)->tlens, TREE_EDITOR_SLOTS, (s)->trees, TREE_EDITOR_TREES, \
+        (s)->order, TREE_EDITOR_SLOTS
+
+/* Each array is lent as a pointer and its number of elements. */
+#define TREE_EDITOR_STORE                                                                                            \
+    uint64_t *plens, size_t plens_len, uint8_t *paths, size_t paths_len, uint64_t *tlens, size_t tlens_len,          \
+        uint8_t *trees, size_t trees_len
+#define TREE_EDITOR_READ                                                                                             \
+    const uint64_t *plens, size_t plens_len, const uint8_t *paths, size_t paths_len, const uint64_t *tlens, size_t tlens_len, \
+        const uint8_t *trees, size_t trees_len, const uint64_t *order, size_t order_len
+#define TREE_EDITOR_ORDER const uint64_t *order, size_t order_len
+/* The object table: ids end to end, one end offset per object, raw trees end to end. The first equal id counts. */
+#define TREE_EDITOR_TABLE                                                                                            \
+    const uint8_t *ids, size_t ids_len, const uint32_t *ends, size_t ends_len, const uint8_t *raws, size_t raws_len
+
+#ifdef __cplusplus
+extern "C" {
+#endif
+
+/* Makes an editor with this raw tree as its root (no bytes: the empty tree), whatever record and arrays held. 13, only for arrays that are
+ * too short, then 12, 5. */
+uint8_t tree_editor_new(tree_editor *ed, TREE_EDITOR_STORE, TREE_EDITOR_ORDER, const uint8_t *raw, size_t raw_len);
+/* Sets a new root; all cached trees go. 13, 9, 12, 5. */
+uint8_t tree_editor_set_root(tree_editor *ed, TREE_EDITOR_STORE, TREE_EDITOR_ORDER, const uint8_t *raw, size_t raw_len);
+
+/* Edits, from the root, and (`_at`) from the tree cached at a prefix. 14, 13, 9, 7, 8, 6, then 5 or 1 to 4. */
+uint8_t tree_editor_upsert(tree_editor *ed, TREE_EDITOR_STORE, TREE_EDITOR_ORDER, TREE_EDITOR_TABLE, const uint8_t *path, size_t path_len,
+                           const uint8_t *id, size_t id_len, uint32_t mode);
+uint8_t tree_editor_upsert_at(tree_editor *ed, TREE_EDITOR_STORE, TREE_EDITOR_ORDER, TREE_EDITOR_TABLE, const uint8_t *prefix, size_t prefix_len,
+                              const uint8_t *path, size_t path_len, const uint8_t *id, size_t id_len, uint32_t mode);
+uint8_t tree_editor_remove(tree_editor *ed, TREE_EDITOR_STORE, TREE_EDITOR_ORDER, TREE_EDITOR_TABLE, const uint8_t *path, size_t path_len);
+uint8_t tree_editor_remove_at(tree_editor *ed, TREE_EDITOR_STORE, TREE_EDITOR_ORDER, TREE_EDITOR_TABLE, const uint8_t *prefix, size_t prefix_len,
+                              const uint8_t *path, size_t path_len);
+uint8_t tree_editor_remove_leaf(tree_editor *ed, TREE_EDITOR_STORE, TREE_EDITOR_ORDER, TREE_EDITOR_TABLE, const uint8_t *path, size_t path_len);
+uint8_t tree_editor_remove_leaf_at(tree_editor *ed, TREE_EDITOR_STORE, TREE_EDITOR_ORDER, TREE_EDITOR_TABLE, const uint8_t *prefix,
+                                   size_t prefix_len, const uint8_t *path, size_t path_len);
+/* Opens a cursor at a path: where it gives 0, the path is the cursor, to be lent as prefix to the calls `_at`. */
+uint8_t tree_editor_cursor_at(tree_editor *ed, TREE_EDITOR_STORE, TREE_EDITOR_ORDER, TREE_EDITOR_TABLE, const uint8_t *path, size_t path_len);
+
+/* Looks a path up in the cached trees: the entry's mode (040000 or more) with its id at the front of `id`, or 0 where there is none, or
+ * the number of the refusal: 13, 9, 8, 6, and 11 where an entry is found and `id` has less than 20 bytes. Changes nothing but `id`. */
+uint32_t tree_editor_get(tree_editor ed, TREE_EDITOR_READ, const uint8_t *path, size_t path_len, uint8_t *id, size_t id_len);
+uint32_t tree_editor_get_at(tree_editor ed, TREE_EDITOR_READ, const uint8_t *prefix, size_t prefix_len, const uint8_t *path, size_t path_len,
+                            uint8_t *id, size_t id_len);
+
+/* Begins a write, from the root, and (`_at`) from the tree cached at a prefix. 13, 9, 8. */
+uint8_t tree_editor_begin(tree_editor *ed, TREE_EDITOR_STORE, uint64_t *order, size_t order_len);
+uint8_t tree_editor_begin_at(tree_editor *ed, TREE_EDITOR_STORE, uint64_t *order, size_t order_len, const uint8_t *prefix, size_t prefix_len);
+/* Reads the open request: the raw tree to the front of `out` and the path it belongs at to the front of `path`, their lengths to lens[0] and
+ * lens[1]. 14 where `path` has fewer than TREE_EDITOR_PATH bytes or `lens` fewer than 2 elements, 13, 10; 11 where `out` is too short, with
+ * the length needed in lens[0] and nothing else changed: TREE_EDITOR_OUTPUT bytes always suffice. */
+uint8_t tree_editor_request(tree_editor ed, TREE_EDITOR_READ, uint8_t *out, size_t out_len, uint8_t *path, size_t path_len, size_t *lens,
+                            size_t lens_len);
+/* Answers the open request with the id of the tree that was requested. 14, 13, 10. The write is over when ed->open is 0. */
+uint8_t tree_editor_answer(tree_editor *ed, TREE_EDITOR_STORE, uint64_t *order, size_t order_len, const uint8_t *id, size_t id_len);
+/* Fails the open request: the start tree goes back as it stands, the other taken trees are lost. 13, 10. */
+uint8_t tree_editor_fail(tree_editor *ed, TREE_EDITOR_STORE, TREE_EDITOR_ORDER);
+
+/* 1 where record and arrays hold an editor, else 0. */
+uint8_t tree_editor_holds(tree_editor ed, TREE_EDITOR_READ);
+
+#ifdef __cplusplus
+}
+#endif
+#endif
