@@ -1,12 +1,13 @@
 #!/usr/bin/env python3
-"""Puts the figures of bench/run.sh together: report.py FOLDER. Prints tables in Markdown, then the bounds; status 1 where one is passed
+"""Puts the figures of bench/run.sh together: report.py FOLDER. Prints tables in Markdown, then the bounds; status 1 where one is missed
 that is not in KNOWN."""
 import re
 import sys
 from pathlib import Path
 
 LENT, RECORD = 48640, 80
-KNOWN = set()  # bounds that docs/FIGURES.md says are passed, and why
+# bounds that are missed; docs/FIGURES.md says why
+KNOWN = {"an upsert beside 30 files, instructions", "the write of 61 trees, instructions over the original's"}
 
 
 def table(heads, rows):
@@ -72,6 +73,7 @@ def main():
     table(["Work", "heap, ours", "calls", "heap, original: bytes at its peak", "calls of the allocator"],
           [[name] + [number(x) for x in heap[name]] for name in heap])
     print("functions that the library needs: " + (", ".join((folder / "needs").read_text().split()) or "none"))
+    print("code, x86-64: %s bytes" % number((folder / "code").read_text()))
     print("lent: %s bytes of arrays, %d of record" % (number(LENT), RECORD))
     print()
 
@@ -83,12 +85,14 @@ def main():
               ("stack of any call, bytes", max(stack.values()), 8192),
               ("lent, bytes", LENT + RECORD, 81920),
               ("heap of any call, bytes", max(int(h[0]) for h in heap.values()), 0)]
-    passed = False
-    for what, n, most in bounds:
-        said = "kept" if n <= most else "PASSED, as docs/FIGURES.md says" if what in KNOWN else "PASSED"
-        passed = passed or said == "PASSED"
-        print("%-58s %10s, at most %9s: %s" % (what, number(n) if n == int(n) else "%.1f" % n, number(most), said))
-    sys.exit(1 if passed else 0)
+    table(["Bound", "measured", "at most", ""],
+          [[what, number(n) if n == int(n) else "%.1f" % n, number(most), "kept" if n <= most else "**missed**"] for what, n, most in bounds])
+    missed = {what for what, n, most in bounds if n > most}
+    for what in sorted(missed - KNOWN):
+        print("missed, and docs/FIGURES.md does not say so: " + what)
+    for what in sorted(KNOWN - missed):
+        print("kept, though docs/FIGURES.md says that it is missed: " + what)
+    sys.exit(1 if missed != KNOWN else 0)
 
 
 if __name__ == "__main__":
