@@ -2,7 +2,7 @@
 # The library for C and Rust, built once (tools/library.sh): the C example, the Rust wrapper's tests, random calls over good and damaged
 # stores, and slips that such calls notice. What needs cargo says so where it is left out.
 set -euo pipefail
-cd "$(dirname "$0")/.."
+cd "$(dirname "$0")/../.."
 TREE_EDITOR_LIB=$(tools/library.sh)
 export TREE_EDITOR_LIB
 examples/c/run.sh
