@@ -41,7 +41,7 @@ pub good-valid : (s : Lent) → Good s → valid sha1 (viewed s) ≡ true
 unfolding sha1
 good-valid s g = g .holds .valid
 
-wide : sha1 .width ≡ 20
+pub wide : sha1 .width ≡ 20
 unfolding sha1
 wide = refl
 
@@ -157,11 +157,11 @@ pub pending-less : (i : Bytes) (E : Editor) (h : Held) → requested E ≡ some 
 pending-less i E h q = less-of i (E .cached) (E .writing) h q
 
 -- The lines of a write
-more-lines : (n k : ℕ) (E : Editor) (h : Held) → requested E ≡ some h → writeLines (suc n) k E ≡ requestLines h ++ writeLines n (k + 1) ((answered sha1 (countId (k + 1)) E) .editor)
+pub more-lines : (n k : ℕ) (E : Editor) (h : Held) → requested E ≡ some h → writeLines (suc n) k E ≡ requestLines h ++ writeLines n (k + 1) ((answered sha1 (countId (k + 1)) E) .editor)
 unfolding writeLines
 more-lines n k E h q = ap (λ (o : Option Held). orRoot k o (writeLines n (k + 1) ((answered sha1 (countId (k + 1)) E) .editor))) q
 
-last-line : (n k : ℕ) (E : Editor) → requested E ≡ none → writeLines (suc n) k E ≡ lineOf rootKey (hexOf (countId k))
+pub last-line : (n k : ℕ) (E : Editor) → requested E ≡ none → writeLines (suc n) k E ≡ lineOf rootKey (hexOf (countId k))
 unfolding writeLines
 last-line n k E q = ap (λ (o : Option Held). orRoot k o (writeLines n (k + 1) ((answered sha1 (countId (k + 1)) E) .editor))) q
 

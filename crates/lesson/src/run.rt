@@ -1,10 +1,11 @@
 // The whole: what is written for an input.
 ghost use mathlib.Core.Path.{_≡_};
 ghost use mathlib.Core.List.{List, _++_};
-ghost use Prim.Native.Nat.{_≤_};
+ghost use Prim.Native.Nat.{ℕ, _≤_};
 ghost use lib.ListN.{length};
 ghost use Rattle.editor.specs.Lent.{lent, Good, viewed};
 ghost use Rattle.records.specs.Records.{Record, good as goodInput, reading};
+ghost use Rattle.records.specs.declared.text.Put.the-variants.{At};
 ghost use Rattle.lesson.specs.Lesson.{recordLines, afterRecords, saved, output};
 ghost use Rattle.lesson.specs.Puts.{Puts};
 use records::form::Form;
@@ -79,9 +80,10 @@ fn good(input: &[u8], out: &mut [u8]) -> Put
     )
 }
 
-// Writes what there is to be written for an input to the front of the output, if it fits.
+// Writes what there is to be written for an input to the front of the output, if it fits; 303,104 bytes always suffice.
 pub fn run(input: &[u8], out: &mut [u8]) -> Put
-    ensures { λ r. ⌜ Puts (now (out .entry)) 0 (output (now (input .entry))) r (now (out .exit)) ⌝ }
+    ensures output { λ r. ⌜ Puts (now (out .entry)) 0 (output (now (input .entry))) r (now (out .exit)) ⌝ }
+    ensures whole { λ r. ⌜ (303104 ≤ length (now (out .entry)) → (n : ℕ) × (r ≡ At n)) ⌝ }
 {
     match records::form::first_bad(input, 20) {
         Form::Bad(n) => records::text::put_number_line(out, 0, b"bad", n as u64),

@@ -6,7 +6,7 @@ use records::text::Put;
 fn main() {
     let mut input = [0u8; 65537];
     let n = io::read_full(STDIN_FILENO, &mut input);
-    let mut out = [0u8; 163840];
+    let mut out = [0u8; 303104];
     match lesson::run::run(&input[..n], &mut out) {
         Put::At(m) => {
             io::write_all(STDOUT_FILENO, names::part::front(&out, m));

@@ -6,6 +6,7 @@ use Rattle.model.specs.Bytes.{Bytes}
 use Rattle.records.specs.Answers.{asForm}
 use Rattle.lesson.specs.Puts.{Puts}
 use Rattle.lesson.proofs.PutLaws.{puts}
+use Rattle.lesson.proofs.FitLaws.{all-given}
 use Rattle.lesson.proofs.RunLaws.{output-bad, good-form}
 use borrow.Author.Needs.{needs}
 use Rattle.lesson.proofs.run.run.Statement.{statement}
@@ -41,15 +42,20 @@ returns c =
     let n = w .before .before .before .before in
     let f = n .before .before in
     let a = f .before .before .before .args in
+    let p =
     subst (λ (l : Bytes). Puts (now (a .out)) 0 l (w .put-number-line .result) (w .put-number-line .last .0))
     (output-bad (now (a .input)) _ (sym (ap asForm (n .n .given .1)) ∙ f .first-bad .ensures))
-    (puts (now (a .out)) 0 (omega arith) _ (w .put-number-line .result) (w .put-number-line .last .0) (w .put-number-line .ensures))
+    (puts (now (a .out)) 0 (omega arith) _ (w .put-number-line .result) (w .put-number-line .last .0) (w .put-number-line .ensures)) in
+    (p, λ h. all-given (now (a .input)) (now (a .out)) (w .put-number-line .result) (w .put-number-line .last .0) h p)
 
 same-length-2 : tie.Need-same-length-2
 same-length-2 c = search needs
 
 returns-2 : tie.Need-returns-2
-returns-2 c = search needs
+returns-2 c =
+    let g = c .before .before in
+    let a = g .before .before .before .before .before .before .before .args in
+    (g .good2 .ensures, λ h. all-given (now (a .input)) (now (a .out)) (g .good2 .result) (g .good2 .last .1 .0) h (g .good2 .ensures))
 
 pub run-spec : {M : Type 1} → statement M
 run-spec =
