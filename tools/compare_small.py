@@ -2,15 +2,17 @@
 """Runs two small programs over the inputs of tools/small_inputs.py and reports the first difference.
 
     compare_small.py [--seed N] [--count N] [--step N] -- COMMAND... -- COMMAND...
-    compare_small.py --record FILE -- COMMAND...     (or --replay FILE)
+    compare_small.py --record FILE -- COMMAND...     (or --replay FILE, which may take --step and --transfer)
 
-The command `model` means tools/model01.py without a new process. --step N takes every Nth input. A recorded FILE has one
+The command `model` means tools/model01.py without a new process. --step N takes every Nth input. --transfer N feeds the last
+program through a pipe that hands over N bytes a read, however many are asked for. A recorded FILE has one
 line an input: its number, the front of its SHA-256, and the output with `|` for newlines, or the output's SHA-256 where it
 is long. Exit status 1 on a difference.
 """
 import argparse
 import collections
 import hashlib
+import os
 import subprocess
 import sys
 
@@ -18,10 +20,28 @@ import model01
 import small_inputs
 
 
-def run(command, data):
+def feed(command, data, transfer):
+    """Run a program over a pipe of packets: a read gets what one write wrote, at most."""
+    out, into = os.pipe2(os.O_DIRECT)
+    with subprocess.Popen(command, stdin=out, stdout=subprocess.PIPE) as p:
+        os.close(out)
+        try:
+            for at in range(0, len(data), transfer):
+                os.write(into, data[at:at + transfer])
+        except BrokenPipeError:  # the program has read as much as it wants
+            pass
+        os.close(into)
+        text = p.stdout.read()
+        return subprocess.CompletedProcess(command, p.wait(), text)
+
+
+def run(command, data, transfer=None):
     if command == ["model"]:
         return model01.small(data[:65537])
-    done = subprocess.run(command, input=data, stdout=subprocess.PIPE)
+    if transfer:
+        done = feed(command, data, transfer)
+    else:
+        done = subprocess.run(command, input=data, stdout=subprocess.PIPE)
     return done.stdout if done.returncode == 0 else done.stdout + b"!! status %d" % done.returncode
 
 
@@ -34,7 +54,7 @@ def line_of(k, data, out):
 
 def against_file(o, command, data):
     """Record the program's outputs, or compare them with those recorded."""
-    lines = [line_of(k, d, run(command, d)) for k, d in enumerate(data)]
+    lines = [line_of(k, d, run(command, d, o.transfer)) for k, d in enumerate(data) if k % o.step == 0]
     if o.record:
         with open(o.record, "w") as f:
             f.write("# Outputs of oracle-small to the inputs of tools/small_inputs.py --seed %d --count %d.\n"
@@ -42,7 +62,7 @@ def against_file(o, command, data):
             f.write("".join(line + "\n" for line in lines))
         return
     with open(o.replay) as f:
-        known = [line.rstrip("\n") for line in f if not line.startswith("#")]
+        known = [line.rstrip("\n") for line in f if not line.startswith("#")][::o.step]
     for want, got in zip(known, lines):
         if want != got:
             sys.exit("DIFFERENCE: %s\n%s: %s" % (want, " ".join(command), got))
@@ -61,6 +81,7 @@ def main():
     p.add_argument("--seed", type=int, default=1)
     p.add_argument("--count", type=int, default=200)
     p.add_argument("--step", type=int, default=1)
+    p.add_argument("--transfer", type=int)
     p.add_argument("--record")
     p.add_argument("--replay")
     o = p.parse_args(argv)
@@ -72,7 +93,7 @@ def main():
     for k, data in enumerate(small_inputs.inputs(o.seed, o.count)):
         if k % o.step:
             continue
-        a, b = run(commands[0], data), run(commands[1], data)
+        a, b = run(commands[0], data), run(commands[1], data, o.transfer)
         if a != b:
             print("DIFFERENCE at input %d (%d bytes): %r" % (k, len(data), data[:2000]))
             for c, out in zip(commands, (a, b)):

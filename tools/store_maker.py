@@ -611,6 +611,7 @@ def byte_changed(rnd, s):
     """A byte in use, or any byte."""
     data, used = rnd.choice(((s.paths, s.used_paths), (s.trees, s.used_trees)))
     n = used if used and rnd.random() < 0.8 else len(data)
+    n = min(n, len(data))  # an earlier damage may have changed the count
     data[rnd.randrange(n)] = rnd.choice((0, 47, 46, 48, 1, 5, 255, rnd.randrange(256)))
 
 
@@ -629,12 +630,12 @@ def bit_changed(rnd, s):
         data, used = (s.paths, s.used_paths) if draw == 2 else (s.trees, s.used_trees)
         if not used:
             return False
-        data[rnd.randrange(used)] ^= 1 << rnd.randrange(8)
+        data[rnd.randrange(min(used, len(data)))] ^= 1 << rnd.randrange(8)
 
 
 def entry_places(s):
     """Where the entries of the trees begin."""
-    at, end = 0, s.used_trees
+    at, end = 0, min(s.used_trees, len(s.trees) - 1)
     while at < end:
         yield at
         at += 2 + ID + s.trees[at + 1]
@@ -674,8 +675,8 @@ def run_end(rnd, s):
         del data[end - n:end]
         data += bytes(n)
         n = -n
-    lens[k] += n
-    setattr(s, name, getattr(s, name) + n)
+    lens[k] = (lens[k] + n) % WORD
+    setattr(s, name, (getattr(s, name) + n) % WORD)
 
 
 def length_wraps(rnd, s):

@@ -1,16 +1,16 @@
 -- Reading the open request tells what the model shows, for an answer of the call below and what is told of it. Assumes nothing.
-use Prim.Native.Nat.{ℕ, zero, suc, _+_, _-_, _<_, _≤_}
+use Prim.Native.Nat.{ℕ, _+_, _-_, _≤_}
 use mathlib.Core.Path.{_≡_, refl, sym, ap, _∙_, subst}
 use mathlib.Core.Bool.{Bool, true, false, cond}
 use mathlib.Core.List.{List, [], _∷_, _++_}
 use mathlib.Core.Option.{Option, none, some}
-use lib.Dec.{eqb, leb}
+use lib.Dec.{eqb}
 use lib.ListN.{length, take, drop, set, replicate, take-append-drop}
 use lib.Seq.{take-at}
 use native.Mathlib.Omega.{arith}
 use borrow.Author.Tests.{eqb-true, eqb-false, le-leb}
 use Rattle.model.specs.Bytes.{Bytes}
-use Rattle.model.specs.Editor.{Held, Cache, Editor as Model}
+use Rattle.model.specs.Editor.{Held, Cache}
 use Rattle.model.specs.Write.{Shown, shown, short, unopened, requested, show}
 use Rattle.names.specs.Splice.{splice}
 use Rattle.slots.specs.View.{writeOf}
@@ -20,7 +20,7 @@ use Rattle.edits.specs.declared.code.Code.the-variants.{Done, EmptyComponent, T
 use Rattle.editor.specs.Lent.{Lent, Good, viewed}
 use Rattle.editor.specs.Looks.{cursorAt, prefixOf}
 use Rattle.editor.specs.declared.cursor.Cursor.{Cursor}
-use Rattle.writing.specs.Requests.{shownAs, shownNumber, shownLength, placeIn, Shows, Requests}
+use Rattle.writing.specs.Requests.{shownAs, shownNumber, shownLength, placeIn, Requests}
 use Rattle.writing.proofs.RequestLaws.{asked-of, brief}
 use Rattle.adapter.specs.Asks.{Slices, slices, readTo, Room, Reads, Asks, shortBy, neededBy, Told}
 

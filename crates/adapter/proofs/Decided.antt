@@ -1,5 +1,5 @@
 -- Any two answers that the statement of a call that reads admits are equal: the lookup is decided, and what is told of it too. Assumes nothing.
-use Prim.Native.Nat.{ℕ, _<_, _≤_}
+use Prim.Native.Nat.{ℕ}
 use mathlib.Core.Path.{_≡_, refl, sym, _∙_, subst}
 use mathlib.Core.Bool.{Bool, true, false}
 use lib.Dec.{eqb, leb}

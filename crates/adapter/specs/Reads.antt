@@ -3,7 +3,6 @@ use Prim.Native.Nat.{ℕ, _<_, _≤_}
 use mathlib.Core.Path.{_≡_}
 use lib.ListN.{length}
 use Rattle.model.specs.Bytes.{Bytes}
-use Rattle.model.specs.Tree.{Entry}
 use Rattle.model.specs.Lookup.{Looked, found, missing, refusal}
 use Rattle.names.specs.Bits.{bitsOf}
 use Rattle.names.specs.Splice.{splice}

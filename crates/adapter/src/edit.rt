@@ -26,7 +26,9 @@ pub extern "C" fn tree_editor_upsert_at(
     id: &[u8],
     mode: u32,
 ) -> u8
-    ensures { λ r. ⌜ Numbers (putBy (tableOf (now (ids .entry)) (now (ends .entry)) (now (raws .entry))) mode (now (id .entry)) (now (prefix .entry)) (now (path .entry))) (lent (now (ed .entry)) (now (plens .entry)) (now (paths .entry)) (now (tlens .entry)) (now (trees .entry)) (now (order .entry))) r (lent (now (ed .exit)) (now (plens .exit)) (now (paths .exit)) (now (tlens .exit)) (now (trees .exit)) (now (order .exit))) ⌝ }
+    ensures { λ r. ⌜ Numbers (putBy (tableOf (now (ids .entry)) (now (ends .entry)) (now (raws .entry))) mode (now (id .entry)) (now (prefix .entry)) (now (path .entry)))
+        (lent (now (ed .entry)) (now (plens .entry)) (now (paths .entry)) (now (tlens .entry)) (now (trees .entry)) (now (order .entry))) r
+        (lent (now (ed .exit)) (now (plens .exit)) (now (paths .exit)) (now (tlens .exit)) (now (trees .exit)) (now (order .exit))) ⌝ }
 {
     let d = numbered::edit::upsert_at(
         *ed,
@@ -63,7 +65,9 @@ pub extern "C" fn tree_editor_upsert(
     id: &[u8],
     mode: u32,
 ) -> u8
-    ensures { λ r. ⌜ Numbers (putBy (tableOf (now (ids .entry)) (now (ends .entry)) (now (raws .entry))) mode (now (id .entry)) [] (now (path .entry))) (lent (now (ed .entry)) (now (plens .entry)) (now (paths .entry)) (now (tlens .entry)) (now (trees .entry)) (now (order .entry))) r (lent (now (ed .exit)) (now (plens .exit)) (now (paths .exit)) (now (tlens .exit)) (now (trees .exit)) (now (order .exit))) ⌝ }
+    ensures { λ r. ⌜ Numbers (putBy (tableOf (now (ids .entry)) (now (ends .entry)) (now (raws .entry))) mode (now (id .entry)) [] (now (path .entry)))
+        (lent (now (ed .entry)) (now (plens .entry)) (now (paths .entry)) (now (tlens .entry)) (now (trees .entry)) (now (order .entry))) r
+        (lent (now (ed .exit)) (now (plens .exit)) (now (paths .exit)) (now (tlens .exit)) (now (trees .exit)) (now (order .exit))) ⌝ }
 {
     let d = numbered::edit::upsert(
         *ed,
@@ -98,7 +102,9 @@ pub extern "C" fn tree_editor_remove_at(
     prefix: &[u8],
     path: &[u8],
 ) -> u8
-    ensures { λ r. ⌜ Does (model.edited sha1 (tableOf (now (ids .entry)) (now (ends .entry)) (now (raws .entry))) (walk.remove walk.ANY) false (now (prefix .entry)) (now (path .entry))) (lent (now (ed .entry)) (now (plens .entry)) (now (paths .entry)) (now (tlens .entry)) (now (trees .entry)) (now (order .entry))) r (lent (now (ed .exit)) (now (plens .exit)) (now (paths .exit)) (now (tlens .exit)) (now (trees .exit)) (now (order .exit))) ⌝ }
+    ensures { λ r. ⌜ Does (model.edited sha1 (tableOf (now (ids .entry)) (now (ends .entry)) (now (raws .entry))) (walk.remove walk.ANY) false (now (prefix .entry)) (now (path .entry)))
+        (lent (now (ed .entry)) (now (plens .entry)) (now (paths .entry)) (now (tlens .entry)) (now (trees .entry)) (now (order .entry))) r
+        (lent (now (ed .exit)) (now (plens .exit)) (now (paths .exit)) (now (tlens .exit)) (now (trees .exit)) (now (order .exit))) ⌝ }
 {
     let d = numbered::edit::remove_at(
         *ed,
@@ -131,7 +137,9 @@ pub extern "C" fn tree_editor_remove(
     raws: &[u8],
     path: &[u8],
 ) -> u8
-    ensures { λ r. ⌜ Does (model.edited sha1 (tableOf (now (ids .entry)) (now (ends .entry)) (now (raws .entry))) (walk.remove walk.ANY) false [] (now (path .entry))) (lent (now (ed .entry)) (now (plens .entry)) (now (paths .entry)) (now (tlens .entry)) (now (trees .entry)) (now (order .entry))) r (lent (now (ed .exit)) (now (plens .exit)) (now (paths .exit)) (now (tlens .exit)) (now (trees .exit)) (now (order .exit))) ⌝ }
+    ensures { λ r. ⌜ Does (model.edited sha1 (tableOf (now (ids .entry)) (now (ends .entry)) (now (raws .entry))) (walk.remove walk.ANY) false [] (now (path .entry)))
+        (lent (now (ed .entry)) (now (plens .entry)) (now (paths .entry)) (now (tlens .entry)) (now (trees .entry)) (now (order .entry))) r
+        (lent (now (ed .exit)) (now (plens .exit)) (now (paths .exit)) (now (tlens .exit)) (now (trees .exit)) (now (order .exit))) ⌝ }
 {
     let d = numbered::edit::remove(
         *ed,
@@ -164,7 +172,9 @@ pub extern "C" fn tree_editor_remove_leaf_at(
     prefix: &[u8],
     path: &[u8],
 ) -> u8
-    ensures { λ r. ⌜ Does (model.edited sha1 (tableOf (now (ids .entry)) (now (ends .entry)) (now (raws .entry))) (walk.remove walk.LEAF) false (now (prefix .entry)) (now (path .entry))) (lent (now (ed .entry)) (now (plens .entry)) (now (paths .entry)) (now (tlens .entry)) (now (trees .entry)) (now (order .entry))) r (lent (now (ed .exit)) (now (plens .exit)) (now (paths .exit)) (now (tlens .exit)) (now (trees .exit)) (now (order .exit))) ⌝ }
+    ensures { λ r. ⌜ Does (model.edited sha1 (tableOf (now (ids .entry)) (now (ends .entry)) (now (raws .entry))) (walk.remove walk.LEAF) false (now (prefix .entry)) (now (path .entry)))
+        (lent (now (ed .entry)) (now (plens .entry)) (now (paths .entry)) (now (tlens .entry)) (now (trees .entry)) (now (order .entry))) r
+        (lent (now (ed .exit)) (now (plens .exit)) (now (paths .exit)) (now (tlens .exit)) (now (trees .exit)) (now (order .exit))) ⌝ }
 {
     let d = numbered::edit::remove_leaf_at(
         *ed,
@@ -197,7 +207,9 @@ pub extern "C" fn tree_editor_remove_leaf(
     raws: &[u8],
     path: &[u8],
 ) -> u8
-    ensures { λ r. ⌜ Does (model.edited sha1 (tableOf (now (ids .entry)) (now (ends .entry)) (now (raws .entry))) (walk.remove walk.LEAF) false [] (now (path .entry))) (lent (now (ed .entry)) (now (plens .entry)) (now (paths .entry)) (now (tlens .entry)) (now (trees .entry)) (now (order .entry))) r (lent (now (ed .exit)) (now (plens .exit)) (now (paths .exit)) (now (tlens .exit)) (now (trees .exit)) (now (order .exit))) ⌝ }
+    ensures { λ r. ⌜ Does (model.edited sha1 (tableOf (now (ids .entry)) (now (ends .entry)) (now (raws .entry))) (walk.remove walk.LEAF) false [] (now (path .entry)))
+        (lent (now (ed .entry)) (now (plens .entry)) (now (paths .entry)) (now (tlens .entry)) (now (trees .entry)) (now (order .entry))) r
+        (lent (now (ed .exit)) (now (plens .exit)) (now (paths .exit)) (now (tlens .exit)) (now (trees .exit)) (now (order .exit))) ⌝ }
 {
     let d = numbered::edit::remove_leaf(
         *ed,
@@ -229,7 +241,9 @@ pub extern "C" fn tree_editor_cursor_at(
     raws: &[u8],
     path: &[u8],
 ) -> u8
-    ensures { λ r. ⌜ Does (model.opened sha1 (tableOf (now (ids .entry)) (now (ends .entry)) (now (raws .entry))) (now (path .entry))) (lent (now (ed .entry)) (now (plens .entry)) (now (paths .entry)) (now (tlens .entry)) (now (trees .entry)) (now (order .entry))) r (lent (now (ed .exit)) (now (plens .exit)) (now (paths .exit)) (now (tlens .exit)) (now (trees .exit)) (now (order .exit))) ⌝ }
+    ensures { λ r. ⌜ Does (model.opened sha1 (tableOf (now (ids .entry)) (now (ends .entry)) (now (raws .entry))) (now (path .entry)))
+        (lent (now (ed .entry)) (now (plens .entry)) (now (paths .entry)) (now (tlens .entry)) (now (trees .entry)) (now (order .entry))) r
+        (lent (now (ed .exit)) (now (plens .exit)) (now (paths .exit)) (now (tlens .exit)) (now (trees .exit)) (now (order .exit))) ⌝ }
 {
     let d = numbered::edit::cursor_at(
         *ed,

@@ -38,7 +38,9 @@ pub extern "C" fn tree_editor_get(
     path: &[u8],
     id: &mut [u8],
 ) -> u32
-    ensures { λ r. ⌜ Gets [] (now (path .entry)) (lent ed (now (plens .entry)) (now (paths .entry)) (now (tlens .entry)) (now (trees .entry)) (now (order .entry))) (now (id .entry)) r (now (id .exit)) ⌝ }
+    ensures { λ r. ⌜ Gets [] (now (path .entry))
+        (lent ed (now (plens .entry)) (now (paths .entry)) (now (tlens .entry)) (now (trees .entry)) (now (order .entry)))
+        (now (id .entry)) r (now (id .exit)) ⌝ }
 {
     let found = editor::look::get(ed, plens, paths, tlens, trees, order, path);
     given(found, id)
@@ -57,7 +59,9 @@ pub extern "C" fn tree_editor_get_at(
     path: &[u8],
     id: &mut [u8],
 ) -> u32
-    ensures { λ r. ⌜ Gets (now (prefix .entry)) (now (path .entry)) (lent ed (now (plens .entry)) (now (paths .entry)) (now (tlens .entry)) (now (trees .entry)) (now (order .entry))) (now (id .entry)) r (now (id .exit)) ⌝ }
+    ensures { λ r. ⌜ Gets (now (prefix .entry)) (now (path .entry))
+        (lent ed (now (plens .entry)) (now (paths .entry)) (now (tlens .entry)) (now (trees .entry)) (now (order .entry)))
+        (now (id .entry)) r (now (id .exit)) ⌝ }
 {
     let found = editor::look::looked(ed, plens, paths, tlens, trees, order, prefix, path);
     given(found, id)

@@ -64,7 +64,9 @@ pub extern "C" fn tree_editor_request(
     path: &mut [u8],
     lens: &mut [usize],
 ) -> u8
-    ensures { λ r. ⌜ Asks (lent ed (now (plens .entry)) (now (paths .entry)) (now (tlens .entry)) (now (trees .entry)) (now (order .entry))) (slices (now (out .entry)) (now (path .entry)) (now (lens .entry))) r (slices (now (out .exit)) (now (path .exit)) (now (lens .exit))) ⌝ }
+    ensures { λ r. ⌜ Asks
+        (lent ed (now (plens .entry)) (now (paths .entry)) (now (tlens .entry)) (now (trees .entry)) (now (order .entry)))
+        (slices (now (out .entry)) (now (path .entry)) (now (lens .entry))) r (slices (now (out .exit)) (now (path .exit)) (now (lens .exit))) ⌝ }
 {
     if lens.len() < 2 {
         return 14;

@@ -16,7 +16,9 @@ pub extern "C" fn tree_editor_new(
     order: &[u64],
     raw: &[u8],
 ) -> u8
-    ensures { λ r. ⌜ Makes (now (raw .entry)) (lent (now (ed .entry)) (now (plens .entry)) (now (paths .entry)) (now (tlens .entry)) (now (trees .entry)) (now (order .entry))) r (lent (now (ed .exit)) (now (plens .exit)) (now (paths .exit)) (now (tlens .exit)) (now (trees .exit)) (now (order .entry))) ⌝ }
+    ensures { λ r. ⌜ Makes (now (raw .entry))
+        (lent (now (ed .entry)) (now (plens .entry)) (now (paths .entry)) (now (tlens .entry)) (now (trees .entry)) (now (order .entry))) r
+        (lent (now (ed .exit)) (now (plens .exit)) (now (paths .exit)) (now (tlens .exit)) (now (trees .exit)) (now (order .entry))) ⌝ }
 {
     let d = numbered::root::new(*ed, plens, paths, tlens, trees, order, raw);
     *ed = d.ed;
@@ -34,7 +36,9 @@ pub extern "C" fn tree_editor_set_root(
     order: &[u64],
     raw: &[u8],
 ) -> u8
-    ensures { λ r. ⌜ Does (setRoot sha1 (now (raw .entry))) (lent (now (ed .entry)) (now (plens .entry)) (now (paths .entry)) (now (tlens .entry)) (now (trees .entry)) (now (order .entry))) r (lent (now (ed .exit)) (now (plens .exit)) (now (paths .exit)) (now (tlens .exit)) (now (trees .exit)) (now (order .entry))) ⌝ }
+    ensures { λ r. ⌜ Does (setRoot sha1 (now (raw .entry)))
+        (lent (now (ed .entry)) (now (plens .entry)) (now (paths .entry)) (now (tlens .entry)) (now (trees .entry)) (now (order .entry))) r
+        (lent (now (ed .exit)) (now (plens .exit)) (now (paths .exit)) (now (tlens .exit)) (now (trees .exit)) (now (order .entry))) ⌝ }
 {
     let d = numbered::root::set_root(*ed, plens, paths, tlens, trees, order, raw);
     *ed = d.ed;

@@ -16,7 +16,9 @@ pub extern "C" fn tree_editor_begin(
     trees: &mut [u8],
     order: &mut [u64],
 ) -> u8
-    ensures { λ r. ⌜ Does (begun sha1 fromRoot) (lent (now (ed .entry)) (now (plens .entry)) (now (paths .entry)) (now (tlens .entry)) (now (trees .entry)) (now (order .entry))) r (lent (now (ed .exit)) (now (plens .exit)) (now (paths .exit)) (now (tlens .exit)) (now (trees .exit)) (now (order .exit))) ⌝ }
+    ensures { λ r. ⌜ Does (begun sha1 fromRoot)
+        (lent (now (ed .entry)) (now (plens .entry)) (now (paths .entry)) (now (tlens .entry)) (now (trees .entry)) (now (order .entry))) r
+        (lent (now (ed .exit)) (now (plens .exit)) (now (paths .exit)) (now (tlens .exit)) (now (trees .exit)) (now (order .exit))) ⌝ }
 {
     let d = numbered::write::begin(*ed, plens, paths, tlens, trees, order);
     *ed = d.ed;
@@ -34,7 +36,9 @@ pub extern "C" fn tree_editor_begin_at(
     order: &mut [u64],
     prefix: &[u8],
 ) -> u8
-    ensures { λ r. ⌜ Does (begun sha1 (fromCursor (now (prefix .entry)))) (lent (now (ed .entry)) (now (plens .entry)) (now (paths .entry)) (now (tlens .entry)) (now (trees .entry)) (now (order .entry))) r (lent (now (ed .exit)) (now (plens .exit)) (now (paths .exit)) (now (tlens .exit)) (now (trees .exit)) (now (order .exit))) ⌝ }
+    ensures { λ r. ⌜ Does (begun sha1 (fromCursor (now (prefix .entry))))
+        (lent (now (ed .entry)) (now (plens .entry)) (now (paths .entry)) (now (tlens .entry)) (now (trees .entry)) (now (order .entry))) r
+        (lent (now (ed .exit)) (now (plens .exit)) (now (paths .exit)) (now (tlens .exit)) (now (trees .exit)) (now (order .exit))) ⌝ }
 {
     let d = numbered::write::begin_at(*ed, plens, paths, tlens, trees, order, prefix);
     *ed = d.ed;
@@ -52,7 +56,9 @@ pub extern "C" fn tree_editor_answer(
     order: &mut [u64],
     id: &[u8],
 ) -> u8
-    ensures { λ r. ⌜ Numbers (answerBy (now (id .entry))) (lent (now (ed .entry)) (now (plens .entry)) (now (paths .entry)) (now (tlens .entry)) (now (trees .entry)) (now (order .entry))) r (lent (now (ed .exit)) (now (plens .exit)) (now (paths .exit)) (now (tlens .exit)) (now (trees .exit)) (now (order .exit))) ⌝ }
+    ensures { λ r. ⌜ Numbers (answerBy (now (id .entry)))
+        (lent (now (ed .entry)) (now (plens .entry)) (now (paths .entry)) (now (tlens .entry)) (now (trees .entry)) (now (order .entry))) r
+        (lent (now (ed .exit)) (now (plens .exit)) (now (paths .exit)) (now (tlens .exit)) (now (trees .exit)) (now (order .exit))) ⌝ }
 {
     let d = numbered::write::answer(*ed, plens, paths, tlens, trees, order, id);
     *ed = d.ed;
@@ -69,7 +75,9 @@ pub extern "C" fn tree_editor_fail(
     trees: &mut [u8],
     order: &[u64],
 ) -> u8
-    ensures { λ r. ⌜ Does failed (lent (now (ed .entry)) (now (plens .entry)) (now (paths .entry)) (now (tlens .entry)) (now (trees .entry)) (now (order .entry))) r (lent (now (ed .exit)) (now (plens .exit)) (now (paths .exit)) (now (tlens .exit)) (now (trees .exit)) (now (order .entry))) ⌝ }
+    ensures { λ r. ⌜ Does failed
+        (lent (now (ed .entry)) (now (plens .entry)) (now (paths .entry)) (now (tlens .entry)) (now (trees .entry)) (now (order .entry))) r
+        (lent (now (ed .exit)) (now (plens .exit)) (now (paths .exit)) (now (tlens .exit)) (now (trees .exit)) (now (order .entry))) ⌝ }
 {
     let d = numbered::write::fail(*ed, plens, paths, tlens, trees, order);
     *ed = d.ed;

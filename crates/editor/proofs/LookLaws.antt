@@ -85,7 +85,7 @@ look-low : (ns : List Bytes) (p : Bytes) (c : Cache) → refusalOf (look ns p c)
 look-low [] p c = omega arith
 look-low (n ∷ ns) p c = on-low (isNil ns) (isSome (find at (join p n) c)) (look ns (join p n) c) (entryOfLookup n (treeAt p c)) (look-low ns (join p n) c)
 
-looked-low : (prefix path : Bytes) (E : Model) → refusalOf (looked prefix path E) ≤ 9
+pub looked-low : (prefix path : Bytes) (E : Model) → refusalOf (looked prefix path E) ≤ 9
 unfolding looked
 looked-low prefix path E =
     let l : Looked = look (components path) prefix (E .cached) in

@@ -13,7 +13,7 @@ ghost use Rattle.edits.specs.Edits.{asEdit};
 ghost use Rattle.edits.specs.Ids.{idBytes};
 ghost use Rattle.edits.specs.Objects.{tableOf};
 ghost use Rattle.editor.specs.Lent.{lent, Does};
-ghost use Rattle.editor.specs.Looks.{prefixOf};
+ghost use Rattle.editor.specs.Looks.{prefixOf, cursorAt};
 use crate::cursor::Cursor;
 use change::pass::Answer;
 use edits::code::Code;
@@ -179,7 +179,8 @@ pub struct Opened {
 // The cursor of an opening that was answered so.
 fn placed(path: &[u8], code: Code) -> Cursor
     requires { ⌜ (codeNumber code ≡ 0 → length (now path) ≤ 1024) ⌝ }
-    ensures { λ r. ⌜ (codeNumber code ≡ 0 → prefixOf r ≡ now (path .entry)) × ((codeNumber code ≡ 0 → ⊥) → prefixOf r ≡ []) ⌝ }
+    ensures { λ r. ⌜ (codeNumber code ≡ 0 → prefixOf r ≡ now (path .entry)) × ((codeNumber code ≡ 0 → ⊥) → prefixOf r ≡ [])
+        × (codeNumber code ≡ 0 → r ≡ cursorAt (now (path .entry))) × ((codeNumber code ≡ 0 → ⊥) → r ≡ cursorAt []) ⌝ }
 {
     if edits::code::number(code) != 0 {
         return crate::cursor::to_cursor();
@@ -203,7 +204,8 @@ pub fn cursor_at(
     ensures { λ r. ⌜ Does (model.opened sha1 (tableOf (now (ids .entry)) (now (ends .entry)) (now (raws .entry))) (now (path .entry)))
         (lent ed (now (plens .entry)) (now (paths .entry)) (now (tlens .entry)) (now (trees .entry)) (now (order .entry))) (codeNumber (r .code))
         (lent (r .ed) (now (plens .exit)) (now (paths .exit)) (now (tlens .exit)) (now (trees .exit)) (now (order .exit)))
-        × (codeNumber (r .code) ≡ 0 → prefixOf (r .cursor) ≡ now (path .entry)) × ((codeNumber (r .code) ≡ 0 → ⊥) → prefixOf (r .cursor) ≡ []) ⌝ }
+        × (codeNumber (r .code) ≡ 0 → prefixOf (r .cursor) ≡ now (path .entry)) × ((codeNumber (r .code) ≡ 0 → ⊥) → prefixOf (r .cursor) ≡ [])
+        × (codeNumber (r .code) ≡ 0 → r .cursor ≡ cursorAt (now (path .entry))) × ((codeNumber (r .code) ≡ 0 → ⊥) → r .cursor ≡ cursorAt []) ⌝ }
 {
     let edit = Edit::Upsert(EntryKind::Tree, edits::id::NULL);
     let a = crate::edit::edited(

@@ -9,7 +9,7 @@ use types.Kit.{Given}
 use denote.Signature.{Slot}
 use denote.Exit.{left}
 use denote.Triple.End.{Kepts}
-use denote.Triple.Walked.{Stay, Stays, AllGo}
+use denote.Triple.Walked.{Stays, AllGo}
 
 abbrev pub restOf : {n : ℕ} → List (Slot n) → List (Slot n)
 restOf [] = []

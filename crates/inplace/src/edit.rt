@@ -29,7 +29,9 @@ pub fn upsert(
     kind: EntryKind,
     id: Id,
 ) -> Code
-    ensures { λ r. ⌜ Does (model.edited sha1 (tableOf (now (ids .entry)) (now (ends .entry)) (now (raws .entry))) (walk.upsert (asMode kind) (idBytes id)) false [] (now (path .entry))) (lent (now (ed .entry)) (now (plens .entry)) (now (paths .entry)) (now (tlens .entry)) (now (trees .entry)) (now (order .entry))) (codeNumber r) (lent (now (ed .exit)) (now (plens .exit)) (now (paths .exit)) (now (tlens .exit)) (now (trees .exit)) (now (order .exit))) ⌝ }
+    ensures { λ r. ⌜ Does (model.edited sha1 (tableOf (now (ids .entry)) (now (ends .entry)) (now (raws .entry))) (walk.upsert (asMode kind) (idBytes id)) false [] (now (path .entry)))
+        (lent (now (ed .entry)) (now (plens .entry)) (now (paths .entry)) (now (tlens .entry)) (now (trees .entry)) (now (order .entry))) (codeNumber r)
+        (lent (now (ed .exit)) (now (plens .exit)) (now (paths .exit)) (now (tlens .exit)) (now (trees .exit)) (now (order .exit))) ⌝ }
 {
     let d = editor::edit::upsert(
         *ed,
@@ -62,7 +64,9 @@ pub fn remove(
     raws: &[u8],
     path: &[u8],
 ) -> Code
-    ensures { λ r. ⌜ Does (model.edited sha1 (tableOf (now (ids .entry)) (now (ends .entry)) (now (raws .entry))) (walk.remove walk.ANY) false [] (now (path .entry))) (lent (now (ed .entry)) (now (plens .entry)) (now (paths .entry)) (now (tlens .entry)) (now (trees .entry)) (now (order .entry))) (codeNumber r) (lent (now (ed .exit)) (now (plens .exit)) (now (paths .exit)) (now (tlens .exit)) (now (trees .exit)) (now (order .exit))) ⌝ }
+    ensures { λ r. ⌜ Does (model.edited sha1 (tableOf (now (ids .entry)) (now (ends .entry)) (now (raws .entry))) (walk.remove walk.ANY) false [] (now (path .entry)))
+        (lent (now (ed .entry)) (now (plens .entry)) (now (paths .entry)) (now (tlens .entry)) (now (trees .entry)) (now (order .entry))) (codeNumber r)
+        (lent (now (ed .exit)) (now (plens .exit)) (now (paths .exit)) (now (tlens .exit)) (now (trees .exit)) (now (order .exit))) ⌝ }
 {
     let d = editor::edit::remove(
         *ed,
@@ -93,7 +97,9 @@ pub fn remove_leaf(
     raws: &[u8],
     path: &[u8],
 ) -> Code
-    ensures { λ r. ⌜ Does (model.edited sha1 (tableOf (now (ids .entry)) (now (ends .entry)) (now (raws .entry))) (walk.remove walk.LEAF) false [] (now (path .entry))) (lent (now (ed .entry)) (now (plens .entry)) (now (paths .entry)) (now (tlens .entry)) (now (trees .entry)) (now (order .entry))) (codeNumber r) (lent (now (ed .exit)) (now (plens .exit)) (now (paths .exit)) (now (tlens .exit)) (now (trees .exit)) (now (order .exit))) ⌝ }
+    ensures { λ r. ⌜ Does (model.edited sha1 (tableOf (now (ids .entry)) (now (ends .entry)) (now (raws .entry))) (walk.remove walk.LEAF) false [] (now (path .entry)))
+        (lent (now (ed .entry)) (now (plens .entry)) (now (paths .entry)) (now (tlens .entry)) (now (trees .entry)) (now (order .entry))) (codeNumber r)
+        (lent (now (ed .exit)) (now (plens .exit)) (now (paths .exit)) (now (tlens .exit)) (now (trees .exit)) (now (order .exit))) ⌝ }
 {
     let d = editor::edit::remove_leaf(
         *ed,

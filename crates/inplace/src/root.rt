@@ -17,7 +17,9 @@ pub fn new(
     order: &[u64],
     raw: &[u8],
 ) -> Code
-    ensures { λ r. ⌜ Makes (now (raw .entry)) (lent (now (ed .entry)) (now (plens .entry)) (now (paths .entry)) (now (tlens .entry)) (now (trees .entry)) (now (order .entry))) (codeNumber r) (lent (now (ed .exit)) (now (plens .exit)) (now (paths .exit)) (now (tlens .exit)) (now (trees .exit)) (now (order .entry))) ⌝ }
+    ensures { λ r. ⌜ Makes (now (raw .entry))
+        (lent (now (ed .entry)) (now (plens .entry)) (now (paths .entry)) (now (tlens .entry)) (now (trees .entry)) (now (order .entry))) (codeNumber r)
+        (lent (now (ed .exit)) (now (plens .exit)) (now (paths .exit)) (now (tlens .exit)) (now (trees .exit)) (now (order .entry))) ⌝ }
 {
     let d = editor::root::new(*ed, plens, paths, tlens, trees, order, raw);
     *ed = d.ed;
@@ -34,7 +36,9 @@ pub fn set_root(
     order: &[u64],
     raw: &[u8],
 ) -> Code
-    ensures { λ r. ⌜ Does (setRoot sha1 (now (raw .entry))) (lent (now (ed .entry)) (now (plens .entry)) (now (paths .entry)) (now (tlens .entry)) (now (trees .entry)) (now (order .entry))) (codeNumber r) (lent (now (ed .exit)) (now (plens .exit)) (now (paths .exit)) (now (tlens .exit)) (now (trees .exit)) (now (order .entry))) ⌝ }
+    ensures { λ r. ⌜ Does (setRoot sha1 (now (raw .entry)))
+        (lent (now (ed .entry)) (now (plens .entry)) (now (paths .entry)) (now (tlens .entry)) (now (trees .entry)) (now (order .entry))) (codeNumber r)
+        (lent (now (ed .exit)) (now (plens .exit)) (now (paths .exit)) (now (tlens .exit)) (now (trees .exit)) (now (order .entry))) ⌝ }
 {
     let d = editor::root::set_root(*ed, plens, paths, tlens, trees, order, raw);
     *ed = d.ed;

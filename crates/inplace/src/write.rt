@@ -20,7 +20,9 @@ pub fn begin(
     trees: &mut [u8],
     order: &mut [u64],
 ) -> Code
-    ensures { λ r. ⌜ Does (begun sha1 fromRoot) (lent (now (ed .entry)) (now (plens .entry)) (now (paths .entry)) (now (tlens .entry)) (now (trees .entry)) (now (order .entry))) (codeNumber r) (lent (now (ed .exit)) (now (plens .exit)) (now (paths .exit)) (now (tlens .exit)) (now (trees .exit)) (now (order .exit))) ⌝ }
+    ensures { λ r. ⌜ Does (begun sha1 fromRoot)
+        (lent (now (ed .entry)) (now (plens .entry)) (now (paths .entry)) (now (tlens .entry)) (now (trees .entry)) (now (order .entry))) (codeNumber r)
+        (lent (now (ed .exit)) (now (plens .exit)) (now (paths .exit)) (now (tlens .exit)) (now (trees .exit)) (now (order .exit))) ⌝ }
 {
     let d = writing::begin::begin(*ed, plens, paths, tlens, trees, order);
     *ed = d.ed;
@@ -37,7 +39,9 @@ pub fn begin_at(
     order: &mut [u64],
     prefix: &[u8],
 ) -> Code
-    ensures { λ r. ⌜ Does (begun sha1 (fromCursor (now (prefix .entry)))) (lent (now (ed .entry)) (now (plens .entry)) (now (paths .entry)) (now (tlens .entry)) (now (trees .entry)) (now (order .entry))) (codeNumber r) (lent (now (ed .exit)) (now (plens .exit)) (now (paths .exit)) (now (tlens .exit)) (now (trees .exit)) (now (order .exit))) ⌝ }
+    ensures { λ r. ⌜ Does (begun sha1 (fromCursor (now (prefix .entry))))
+        (lent (now (ed .entry)) (now (plens .entry)) (now (paths .entry)) (now (tlens .entry)) (now (trees .entry)) (now (order .entry))) (codeNumber r)
+        (lent (now (ed .exit)) (now (plens .exit)) (now (paths .exit)) (now (tlens .exit)) (now (trees .exit)) (now (order .exit))) ⌝ }
 {
     let d = writing::begin::begin_at(*ed, plens, paths, tlens, trees, order, prefix);
     *ed = d.ed;
@@ -54,7 +58,9 @@ pub fn begin_cursor(
     order: &mut [u64],
     cursor: Cursor,
 ) -> Code
-    ensures { λ r. ⌜ Does (begun sha1 (fromCursor (prefixOf cursor))) (lent (now (ed .entry)) (now (plens .entry)) (now (paths .entry)) (now (tlens .entry)) (now (trees .entry)) (now (order .entry))) (codeNumber r) (lent (now (ed .exit)) (now (plens .exit)) (now (paths .exit)) (now (tlens .exit)) (now (trees .exit)) (now (order .exit))) ⌝ }
+    ensures { λ r. ⌜ Does (begun sha1 (fromCursor (prefixOf cursor)))
+        (lent (now (ed .entry)) (now (plens .entry)) (now (paths .entry)) (now (tlens .entry)) (now (trees .entry)) (now (order .entry))) (codeNumber r)
+        (lent (now (ed .exit)) (now (plens .exit)) (now (paths .exit)) (now (tlens .exit)) (now (trees .exit)) (now (order .exit))) ⌝ }
 {
     let d = writing::begin::begin_cursor(*ed, plens, paths, tlens, trees, order, cursor);
     *ed = d.ed;
@@ -71,7 +77,9 @@ pub fn answer(
     order: &mut [u64],
     id: Id,
 ) -> Code
-    ensures { λ r. ⌜ Does (answered sha1 (idBytes id)) (lent (now (ed .entry)) (now (plens .entry)) (now (paths .entry)) (now (tlens .entry)) (now (trees .entry)) (now (order .entry))) (codeNumber r) (lent (now (ed .exit)) (now (plens .exit)) (now (paths .exit)) (now (tlens .exit)) (now (trees .exit)) (now (order .exit))) ⌝ }
+    ensures { λ r. ⌜ Does (answered sha1 (idBytes id))
+        (lent (now (ed .entry)) (now (plens .entry)) (now (paths .entry)) (now (tlens .entry)) (now (trees .entry)) (now (order .entry))) (codeNumber r)
+        (lent (now (ed .exit)) (now (plens .exit)) (now (paths .exit)) (now (tlens .exit)) (now (trees .exit)) (now (order .exit))) ⌝ }
 {
     let d = writing::answer::answer(*ed, plens, paths, tlens, trees, order, id);
     *ed = d.ed;
@@ -87,7 +95,9 @@ pub fn fail(
     trees: &mut [u8],
     order: &[u64],
 ) -> Code
-    ensures { λ r. ⌜ Does failed (lent (now (ed .entry)) (now (plens .entry)) (now (paths .entry)) (now (tlens .entry)) (now (trees .entry)) (now (order .entry))) (codeNumber r) (lent (now (ed .exit)) (now (plens .exit)) (now (paths .exit)) (now (tlens .exit)) (now (trees .exit)) (now (order .entry))) ⌝ }
+    ensures { λ r. ⌜ Does failed
+        (lent (now (ed .entry)) (now (plens .entry)) (now (paths .entry)) (now (tlens .entry)) (now (trees .entry)) (now (order .entry))) (codeNumber r)
+        (lent (now (ed .exit)) (now (plens .exit)) (now (paths .exit)) (now (tlens .exit)) (now (trees .exit)) (now (order .entry))) ⌝ }
 {
     let d = writing::fail::fail(*ed, plens, paths, tlens, trees, order);
     *ed = d.ed;

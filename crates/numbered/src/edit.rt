@@ -30,7 +30,9 @@ fn edited(
     path: &[u8],
     edit: Edit,
 ) -> Numbered
-    ensures { λ r. ⌜ Does (model.edited sha1 (tableOf (now (ids .entry)) (now (ends .entry)) (now (raws .entry))) (asEdit edit) false (now (prefix .entry)) (now (path .entry))) (lent ed (now (plens .entry)) (now (paths .entry)) (now (tlens .entry)) (now (trees .entry)) (now (order .entry))) (r .code) (lent (r .ed) (now (plens .exit)) (now (paths .exit)) (now (tlens .exit)) (now (trees .exit)) (now (order .exit))) ⌝ }
+    ensures { λ r. ⌜ Does (model.edited sha1 (tableOf (now (ids .entry)) (now (ends .entry)) (now (raws .entry))) (asEdit edit) false (now (prefix .entry)) (now (path .entry)))
+        (lent ed (now (plens .entry)) (now (paths .entry)) (now (tlens .entry)) (now (trees .entry)) (now (order .entry))) (r .code)
+        (lent (r .ed) (now (plens .exit)) (now (paths .exit)) (now (tlens .exit)) (now (trees .exit)) (now (order .exit))) ⌝ }
 {
     let a = editor::edit::edited(
         ed,
@@ -71,7 +73,9 @@ pub fn upsert_at(
     id: &[u8],
     mode: u32,
 ) -> Numbered
-    ensures { λ r. ⌜ Numbers (putBy (tableOf (now (ids .entry)) (now (ends .entry)) (now (raws .entry))) mode (now (id .entry)) (now (prefix .entry)) (now (path .entry))) (lent ed (now (plens .entry)) (now (paths .entry)) (now (tlens .entry)) (now (trees .entry)) (now (order .entry))) (r .code) (lent (r .ed) (now (plens .exit)) (now (paths .exit)) (now (tlens .exit)) (now (trees .exit)) (now (order .exit))) ⌝ }
+    ensures { λ r. ⌜ Numbers (putBy (tableOf (now (ids .entry)) (now (ends .entry)) (now (raws .entry))) mode (now (id .entry)) (now (prefix .entry)) (now (path .entry)))
+        (lent ed (now (plens .entry)) (now (paths .entry)) (now (tlens .entry)) (now (trees .entry)) (now (order .entry))) (r .code)
+        (lent (r .ed) (now (plens .exit)) (now (paths .exit)) (now (tlens .exit)) (now (trees .exit)) (now (order .exit))) ⌝ }
 {
     if id.len() != 20 {
         return Numbered { code: 14, ed };
@@ -113,7 +117,9 @@ pub fn upsert(
     id: &[u8],
     mode: u32,
 ) -> Numbered
-    ensures { λ r. ⌜ Numbers (putBy (tableOf (now (ids .entry)) (now (ends .entry)) (now (raws .entry))) mode (now (id .entry)) [] (now (path .entry))) (lent ed (now (plens .entry)) (now (paths .entry)) (now (tlens .entry)) (now (trees .entry)) (now (order .entry))) (r .code) (lent (r .ed) (now (plens .exit)) (now (paths .exit)) (now (tlens .exit)) (now (trees .exit)) (now (order .exit))) ⌝ }
+    ensures { λ r. ⌜ Numbers (putBy (tableOf (now (ids .entry)) (now (ends .entry)) (now (raws .entry))) mode (now (id .entry)) [] (now (path .entry)))
+        (lent ed (now (plens .entry)) (now (paths .entry)) (now (tlens .entry)) (now (trees .entry)) (now (order .entry))) (r .code)
+        (lent (r .ed) (now (plens .exit)) (now (paths .exit)) (now (tlens .exit)) (now (trees .exit)) (now (order .exit))) ⌝ }
 {
     upsert_at(
         ed,
@@ -146,7 +152,9 @@ pub fn remove_at(
     prefix: &[u8],
     path: &[u8],
 ) -> Numbered
-    ensures { λ r. ⌜ Does (model.edited sha1 (tableOf (now (ids .entry)) (now (ends .entry)) (now (raws .entry))) (walk.remove walk.ANY) false (now (prefix .entry)) (now (path .entry))) (lent ed (now (plens .entry)) (now (paths .entry)) (now (tlens .entry)) (now (trees .entry)) (now (order .entry))) (r .code) (lent (r .ed) (now (plens .exit)) (now (paths .exit)) (now (tlens .exit)) (now (trees .exit)) (now (order .exit))) ⌝ }
+    ensures { λ r. ⌜ Does (model.edited sha1 (tableOf (now (ids .entry)) (now (ends .entry)) (now (raws .entry))) (walk.remove walk.ANY) false (now (prefix .entry)) (now (path .entry)))
+        (lent ed (now (plens .entry)) (now (paths .entry)) (now (tlens .entry)) (now (trees .entry)) (now (order .entry))) (r .code)
+        (lent (r .ed) (now (plens .exit)) (now (paths .exit)) (now (tlens .exit)) (now (trees .exit)) (now (order .exit))) ⌝ }
 {
     let edit = Edit::Remove(RemoveKind::Any);
     edited(
@@ -178,7 +186,9 @@ pub fn remove(
     raws: &[u8],
     path: &[u8],
 ) -> Numbered
-    ensures { λ r. ⌜ Does (model.edited sha1 (tableOf (now (ids .entry)) (now (ends .entry)) (now (raws .entry))) (walk.remove walk.ANY) false [] (now (path .entry))) (lent ed (now (plens .entry)) (now (paths .entry)) (now (tlens .entry)) (now (trees .entry)) (now (order .entry))) (r .code) (lent (r .ed) (now (plens .exit)) (now (paths .exit)) (now (tlens .exit)) (now (trees .exit)) (now (order .exit))) ⌝ }
+    ensures { λ r. ⌜ Does (model.edited sha1 (tableOf (now (ids .entry)) (now (ends .entry)) (now (raws .entry))) (walk.remove walk.ANY) false [] (now (path .entry)))
+        (lent ed (now (plens .entry)) (now (paths .entry)) (now (tlens .entry)) (now (trees .entry)) (now (order .entry))) (r .code)
+        (lent (r .ed) (now (plens .exit)) (now (paths .exit)) (now (tlens .exit)) (now (trees .exit)) (now (order .exit))) ⌝ }
 {
     remove_at(
         ed,
@@ -209,7 +219,9 @@ pub fn remove_leaf_at(
     prefix: &[u8],
     path: &[u8],
 ) -> Numbered
-    ensures { λ r. ⌜ Does (model.edited sha1 (tableOf (now (ids .entry)) (now (ends .entry)) (now (raws .entry))) (walk.remove walk.LEAF) false (now (prefix .entry)) (now (path .entry))) (lent ed (now (plens .entry)) (now (paths .entry)) (now (tlens .entry)) (now (trees .entry)) (now (order .entry))) (r .code) (lent (r .ed) (now (plens .exit)) (now (paths .exit)) (now (tlens .exit)) (now (trees .exit)) (now (order .exit))) ⌝ }
+    ensures { λ r. ⌜ Does (model.edited sha1 (tableOf (now (ids .entry)) (now (ends .entry)) (now (raws .entry))) (walk.remove walk.LEAF) false (now (prefix .entry)) (now (path .entry)))
+        (lent ed (now (plens .entry)) (now (paths .entry)) (now (tlens .entry)) (now (trees .entry)) (now (order .entry))) (r .code)
+        (lent (r .ed) (now (plens .exit)) (now (paths .exit)) (now (tlens .exit)) (now (trees .exit)) (now (order .exit))) ⌝ }
 {
     let edit = Edit::Remove(RemoveKind::Leaf);
     edited(
@@ -241,7 +253,9 @@ pub fn remove_leaf(
     raws: &[u8],
     path: &[u8],
 ) -> Numbered
-    ensures { λ r. ⌜ Does (model.edited sha1 (tableOf (now (ids .entry)) (now (ends .entry)) (now (raws .entry))) (walk.remove walk.LEAF) false [] (now (path .entry))) (lent ed (now (plens .entry)) (now (paths .entry)) (now (tlens .entry)) (now (trees .entry)) (now (order .entry))) (r .code) (lent (r .ed) (now (plens .exit)) (now (paths .exit)) (now (tlens .exit)) (now (trees .exit)) (now (order .exit))) ⌝ }
+    ensures { λ r. ⌜ Does (model.edited sha1 (tableOf (now (ids .entry)) (now (ends .entry)) (now (raws .entry))) (walk.remove walk.LEAF) false [] (now (path .entry)))
+        (lent ed (now (plens .entry)) (now (paths .entry)) (now (tlens .entry)) (now (trees .entry)) (now (order .entry))) (r .code)
+        (lent (r .ed) (now (plens .exit)) (now (paths .exit)) (now (tlens .exit)) (now (trees .exit)) (now (order .exit))) ⌝ }
 {
     remove_leaf_at(
         ed,
@@ -271,11 +285,13 @@ pub fn cursor_at(
     raws: &[u8],
     path: &[u8],
 ) -> Numbered
-    ensures { λ r. ⌜ Does (model.opened sha1 (tableOf (now (ids .entry)) (now (ends .entry)) (now (raws .entry))) (now (path .entry))) (lent ed (now (plens .entry)) (now (paths .entry)) (now (tlens .entry)) (now (trees .entry)) (now (order .entry))) (r .code) (lent (r .ed) (now (plens .exit)) (now (paths .exit)) (now (tlens .exit)) (now (trees .exit)) (now (order .exit))) ⌝ }
+    ensures { λ r. ⌜ Does (model.opened sha1 (tableOf (now (ids .entry)) (now (ends .entry)) (now (raws .entry))) (now (path .entry)))
+        (lent ed (now (plens .entry)) (now (paths .entry)) (now (tlens .entry)) (now (trees .entry)) (now (order .entry))) (r .code)
+        (lent (r .ed) (now (plens .exit)) (now (paths .exit)) (now (tlens .exit)) (now (trees .exit)) (now (order .exit))) ⌝ }
 {
-    let a = editor::below::cursor_at(ed, plens, paths, tlens, trees, order, ids, ends, raws, path);
-    let code = a.code;
-    let now = a.ed;
+    let o = editor::below::cursor_at(ed, plens, paths, tlens, trees, order, ids, ends, raws, path);
+    let code = o.code;
+    let now = o.ed;
     Numbered {
         code: edits::code::number(code),
         ed: now,

@@ -16,7 +16,9 @@ pub fn new(
     order: &[u64],
     raw: &[u8],
 ) -> Numbered
-    ensures { λ r. ⌜ Makes (now (raw .entry)) (lent ed (now (plens .entry)) (now (paths .entry)) (now (tlens .entry)) (now (trees .entry)) (now (order .entry))) (r .code) (lent (r .ed) (now (plens .exit)) (now (paths .exit)) (now (tlens .exit)) (now (trees .exit)) (now (order .entry))) ⌝ }
+    ensures { λ r. ⌜ Makes (now (raw .entry))
+        (lent ed (now (plens .entry)) (now (paths .entry)) (now (tlens .entry)) (now (trees .entry)) (now (order .entry))) (r .code)
+        (lent (r .ed) (now (plens .exit)) (now (paths .exit)) (now (tlens .exit)) (now (trees .exit)) (now (order .entry))) ⌝ }
 {
     let a = editor::root::new(ed, plens, paths, tlens, trees, order, raw);
     let code = a.code;
@@ -37,7 +39,9 @@ pub fn set_root(
     order: &[u64],
     raw: &[u8],
 ) -> Numbered
-    ensures { λ r. ⌜ Does (setRoot sha1 (now (raw .entry))) (lent ed (now (plens .entry)) (now (paths .entry)) (now (tlens .entry)) (now (trees .entry)) (now (order .entry))) (r .code) (lent (r .ed) (now (plens .exit)) (now (paths .exit)) (now (tlens .exit)) (now (trees .exit)) (now (order .entry))) ⌝ }
+    ensures { λ r. ⌜ Does (setRoot sha1 (now (raw .entry)))
+        (lent ed (now (plens .entry)) (now (paths .entry)) (now (tlens .entry)) (now (trees .entry)) (now (order .entry))) (r .code)
+        (lent (r .ed) (now (plens .exit)) (now (paths .exit)) (now (tlens .exit)) (now (trees .exit)) (now (order .entry))) ⌝ }
 {
     let a = editor::root::set_root(ed, plens, paths, tlens, trees, order, raw);
     let code = a.code;

@@ -16,7 +16,9 @@ pub fn begin(
     trees: &mut [u8],
     order: &mut [u64],
 ) -> Numbered
-    ensures { λ r. ⌜ Does (begun sha1 fromRoot) (lent ed (now (plens .entry)) (now (paths .entry)) (now (tlens .entry)) (now (trees .entry)) (now (order .entry))) (r .code) (lent (r .ed) (now (plens .exit)) (now (paths .exit)) (now (tlens .exit)) (now (trees .exit)) (now (order .exit))) ⌝ }
+    ensures { λ r. ⌜ Does (begun sha1 fromRoot)
+        (lent ed (now (plens .entry)) (now (paths .entry)) (now (tlens .entry)) (now (trees .entry)) (now (order .entry))) (r .code)
+        (lent (r .ed) (now (plens .exit)) (now (paths .exit)) (now (tlens .exit)) (now (trees .exit)) (now (order .exit))) ⌝ }
 {
     let a = writing::begin::begin(ed, plens, paths, tlens, trees, order);
     let code = a.code;
@@ -37,7 +39,9 @@ pub fn begin_at(
     order: &mut [u64],
     prefix: &[u8],
 ) -> Numbered
-    ensures { λ r. ⌜ Does (begun sha1 (fromCursor (now (prefix .entry)))) (lent ed (now (plens .entry)) (now (paths .entry)) (now (tlens .entry)) (now (trees .entry)) (now (order .entry))) (r .code) (lent (r .ed) (now (plens .exit)) (now (paths .exit)) (now (tlens .exit)) (now (trees .exit)) (now (order .exit))) ⌝ }
+    ensures { λ r. ⌜ Does (begun sha1 (fromCursor (now (prefix .entry))))
+        (lent ed (now (plens .entry)) (now (paths .entry)) (now (tlens .entry)) (now (trees .entry)) (now (order .entry))) (r .code)
+        (lent (r .ed) (now (plens .exit)) (now (paths .exit)) (now (tlens .exit)) (now (trees .exit)) (now (order .exit))) ⌝ }
 {
     let a = writing::begin::begin_at(ed, plens, paths, tlens, trees, order, prefix);
     let code = a.code;
@@ -58,7 +62,9 @@ pub fn answer(
     order: &mut [u64],
     id: &[u8],
 ) -> Numbered
-    ensures { λ r. ⌜ Numbers (answerBy (now (id .entry))) (lent ed (now (plens .entry)) (now (paths .entry)) (now (tlens .entry)) (now (trees .entry)) (now (order .entry))) (r .code) (lent (r .ed) (now (plens .exit)) (now (paths .exit)) (now (tlens .exit)) (now (trees .exit)) (now (order .exit))) ⌝ }
+    ensures { λ r. ⌜ Numbers (answerBy (now (id .entry)))
+        (lent ed (now (plens .entry)) (now (paths .entry)) (now (tlens .entry)) (now (trees .entry)) (now (order .entry))) (r .code)
+        (lent (r .ed) (now (plens .exit)) (now (paths .exit)) (now (tlens .exit)) (now (trees .exit)) (now (order .exit))) ⌝ }
 {
     if id.len() != 20 {
         return Numbered { code: 14, ed };
@@ -89,7 +95,9 @@ pub fn fail(
     trees: &mut [u8],
     order: &[u64],
 ) -> Numbered
-    ensures { λ r. ⌜ Does failed (lent ed (now (plens .entry)) (now (paths .entry)) (now (tlens .entry)) (now (trees .entry)) (now (order .entry))) (r .code) (lent (r .ed) (now (plens .exit)) (now (paths .exit)) (now (tlens .exit)) (now (trees .exit)) (now (order .entry))) ⌝ }
+    ensures { λ r. ⌜ Does failed
+        (lent ed (now (plens .entry)) (now (paths .entry)) (now (tlens .entry)) (now (trees .entry)) (now (order .entry))) (r .code)
+        (lent (r .ed) (now (plens .exit)) (now (paths .exit)) (now (tlens .exit)) (now (trees .exit)) (now (order .entry))) ⌝ }
 {
     let a = writing::fail::fail(ed, plens, paths, tlens, trees, order);
     let code = a.code;

@@ -77,7 +77,7 @@ module _ (w : ℕ) (r : Editor) (plens paths tlens trees : List ℕ) (L : Laid w
     abbrev taken : Option Write
     taken = writeOf (r .«open») asked (asideOf w r plens paths tlens trees order) (stackedOf w r plens paths tlens trees order)
 
-    every-total : (f : Held → ℕ) (n : ℕ) → r .«open» ≡ n → total f (everyTree (gather left) (writeOf n asked (asideOf w r plens paths tlens trees order) (stackedOf w r plens paths tlens trees order))) ≡ total f used
+    pub every-total : (f : Held → ℕ) (n : ℕ) → r .«open» ≡ n → total f (everyTree (gather left) (writeOf n asked (asideOf w r plens paths tlens trees order) (stackedOf w r plens paths tlens trees order))) ≡ total f used
     unfolding everyTree
     every-total f zero e =
         let h : left ≡ used = ap (λ (m : ℕ). slotsOf w (digits 64 m) ps bs) (ord .closed e .hidden) in

@@ -34,7 +34,7 @@ use Rattle.writing.proofs.Decided.{frontOf, zero-code}
 use Rattle.writing.proofs.FailLaws.{valid-20, front-holds}
 use Rattle.writing.proofs.RequestLaws.{asked-of}
 
-viewed-valid : (s : Lent) → Good s → valid sha1 (viewed s) ≡ true
+pub viewed-valid : (s : Lent) → Good s → valid sha1 (viewed s) ≡ true
 viewed-valid s g = valid-20 (fronts s) (front-holds s g)
 
 -- the requested tree of an open write

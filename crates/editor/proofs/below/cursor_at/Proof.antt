@@ -34,7 +34,7 @@ returns : tie.Need-returns
 returns c =
     let z = c .before .before .before .before .before .before .before .before .before .before in
     let a = c .before .before .before .before .before .before .before .before .before .before .before .before .before .before .before .before .before .before .before .before .before .before .before .before .before .args in
-    (opened-does (tableOf (a .ids .now) (a .ends .now) (a .raws .now)) (a .path .now) _ _ _ (z .edited .ensures), c .placed .ensures .0, c .placed .ensures .1)
+    (opened-does (tableOf (a .ids .now) (a .ends .now) (a .raws .now)) (a .path .now) _ _ _ (z .edited .ensures), c .placed .ensures .0, c .placed .ensures .1, c .placed .ensures .2, c .placed .ensures .3)
 
 pub cursor-at-spec : {M : Type 1} → statement M
 cursor-at-spec =

@@ -1,5 +1,6 @@
 -- `editor::below::placed` meets its contract: only the number 0 gives the cursor at the path. Assumes nothing.
-use mathlib.Core.Path.{sym, _∙_}
+use mathlib.Core.Path.{sym, ap, _∙_}
+use Rattle.editor.specs.Looks.{cursorAt}
 use Rattle.editor.proofs.CursorLaws.{prefix-within, standing-at}
 use borrow.Author.Needs.{needs}
 use Rattle.editor.proofs.below.placed.Statement.{statement}
@@ -14,7 +15,7 @@ to-cursor-requires c κs = search needs
 returns : tie.Need-returns
 returns c =
     let n = c .before .before in
-    (λ z. absurd (c .before .if1 .taken (n .number .ensures ∙ z)), λ z. c .to-cursor .ensures .0)
+    (λ z. absurd (c .before .if1 .taken (n .number .ensures ∙ z)), λ z. c .to-cursor .ensures .0, λ z. absurd (c .before .if1 .taken (n .number .ensures ∙ z)), λ z. c .to-cursor .ensures .1)
 
 at-requires : tie.Need-at-requires
 at-requires c κs = search needs
@@ -23,8 +24,11 @@ returns-2 : tie.Need-returns-2
 returns-2 c =
     let e = c .before in
     let n = e .before in
-    let s = n .before .before in (
-      λ z. sym (prefix-within (c .at .result) (c .at .ensures .0)) ∙ c .at .ensures .1 ∙ sym (standing-at (s .args .path .now) (s .pre (sym (n .number .ensures) ∙ e .if1 .left))),
+    let s = n .before .before in
+    let there = sym (standing-at (s .args .path .now) (s .pre (sym (n .number .ensures) ∙ e .if1 .left))) in (
+      λ z. sym (prefix-within (c .at .result) (c .at .ensures .0)) ∙ c .at .ensures .1 ∙ there,
+      λ z. absurd (z (sym (n .number .ensures) ∙ e .if1 .left)),
+      λ z. c .at .ensures .2 ∙ ap cursorAt there,
       λ z. absurd (z (sym (n .number .ensures) ∙ e .if1 .left)),
     )
 

@@ -1,0 +1,9 @@
+pub mod AllLaws
+pub mod Decided
+pub mod Examples
+pub mod FitLaws
+pub mod PutLaws
+pub mod RecordLaws
+pub mod RoomLaws
+pub mod RunLaws
+pub mod SaveLaws

@@ -1,0 +1,3 @@
+-- Definitions that the contracts of `lesson` cite.
+pub mod Lesson
+pub mod Puts

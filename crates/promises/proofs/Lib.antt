@@ -1,0 +1,8 @@
+-- The theorems; `Theorems` is the index.
+pub mod Accepted
+pub mod AnyOrder
+pub mod OneAnswer
+pub mod OneRequest
+pub mod SameCounts
+pub mod Theorems
+pub mod WrongPrograms

@@ -1,0 +1,23 @@
+-- What the statements of the public calls promise, taken together: the index. Each statement stands whole in the file that its line names, in the words of specs/ and of the contracts. Assumes nothing.
+-- I. Any two answers are equal: of the calls that change a store (`one-answer`, over the list of them in specs/Public.antt), with the cursor of an opening
+-- (`one-opening`); of lookups, on the editor and below a cursor (`one-lookup`); of the request, with the output and where the tree belongs (`same-request`). What
+-- two answers may differ in is listed in docs/EXCEPTIONS.md; no number of the record but the slots' is among it (`same-numbers`), and it shows in no later answer (`spare-unread` and
+-- the two like it)
+pub use Rattle.promises.proofs.OneAnswer.{one-answer, one-opening, one-lookup, spare-unread, spare-unread-lookup}
+pub use Rattle.writing.proofs.Decided.{same-request}
+pub use Rattle.promises.proofs.OneRequest.{spare-unread-request}
+pub use Rattle.promises.proofs.SameCounts.{same-numbers}
+-- II. Order, for upserts by the public call, with paths that are valid and apart, over stores that hold an editor with no write open: if one order is answered DONE
+-- throughout, so is every other; the editors at the end are equal; and so are the requests of a write that follows, with the same ids answered. The host's requests
+-- are the model's (`writes-is`)
+pub use Rattle.promises.proofs.AnyOrder.{any-order, writes-is}
+-- III. Every store that our calls leave is accepted: after one call (`accepted`), after any list of calls (`all-accepted`), and from the making of an editor on, in
+-- memory of any content (`made-accepted`, `accepted-from-new`); none of these calls answers 13
+pub use Rattle.promises.proofs.Accepted.{accepted, made-accepted, all-accepted, accepted-from-new}
+-- IV. Programs that the statements shut out: a call that refuses everything (`no-refuser`: a script with each of the calls is answered DONE throughout); an upsert that
+-- does nothing (`no-idler`); a lookup that gives one fixed answer (`no-fixed-lookup`); a write that requests one tree and only pretends the rest (`no-pretender`);
+-- an invented length with number 11 (`told-length`)
+pub use Rattle.promises.proofs.WrongPrograms.{no-refuser, no-idler, no-fixed-lookup, no-pretender}
+pub use Rattle.promises.proofs.OneRequest.{told-length}
+-- V. The write: 45,056 bytes of output always suffice (`output-suffices`), and a write makes at most 64 requests (`at-most-64`)
+pub use Rattle.writing.proofs.Theorems.{output-suffices, at-most-64}

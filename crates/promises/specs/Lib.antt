@@ -1,0 +1,4 @@
+-- What the theorems of `promises` speak of.
+pub mod Examples
+pub mod Public
+pub mod Runs

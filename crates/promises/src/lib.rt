@@ -1,0 +1,1 @@
+// Theorems alone: what the statements of the public calls promise, taken together.

@@ -1,0 +1,17 @@
+#!/usr/bin/env bash
+# The proved small program against the oracle's recorded answers, whole and in transfers of several sizes, and Git's judgement
+# of the trees that it writes for the sample. Runs after the proofs, which leave the program in target/bin.
+set -euo pipefail
+cd "$(dirname "$0")/../.."
+small=target/bin/small
+python3 tools/compare_small.py --replay tests/data/small-answers.txt -- $small
+for n in 1 2 3 7 511 512; do
+  python3 tools/compare_small.py --replay tests/data/small-answers.txt --step 10 --transfer $n -- $small
+done
+if command -v git > /dev/null; then
+  repository=$(mktemp -d)
+  trap 'rm -rf "$repository"' EXIT
+  $small < samples/lesson.records | python3 tools/into_git.py "$repository"
+else
+  echo "no git: the sample's trees are not put into a repository"
+fi
