@@ -20,9 +20,9 @@
 #include <stdlib.h>
 #include <string.h>
 
+#include "../examples/c/sha1.h"
 #include "bytes.h"
 #include "calls.h"
-#include "sha1.h"
 #include "tree_editor.h"
 
 /* ---- dumps, from the bytes of the store ---- */
@@ -184,21 +184,21 @@ static void says_get(uint32_t got)
 /* A whole write, answered with Git's ids; with `keeping`, each tree is put into the table. */
 static void finish(bool below, bool keeping)
 {
-    uint8_t git_id[TREE_EDITOR_ID];
+    uint8_t answered[TREE_EDITOR_ID];
     uint32_t number = checked(BEGIN, below);
     while (number == TREE_EDITOR_DONE && ed.open) {
         number = request(TREE_EDITOR_OUTPUT);
         if (number != TREE_EDITOR_DONE)
             break;
-        git_tree_id(out.at, length_given(0), git_id);
-        lend_bytes(&id, git_id, sizeof git_id);
+        git_id(answered, "tree", out.at, length_given(0));
+        lend_bytes(&id, answered, sizeof answered);
         fputs(" wrote ", stdout);
         put_request();
         putchar_unlocked(' ');
         put_hex(id.at, id.len);
         putchar_unlocked('\n');
         if (keeping)
-            add_object(git_id, out.at, length_given(0));
+            add_object(answered, out.at, length_given(0));
         number = checked(ANSWER, false);
     }
     lend_table();

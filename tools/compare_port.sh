@@ -1,7 +1,7 @@
 #!/usr/bin/env bash
 # The comparison of the compiled port with the Rust: every call's answer, and the whole state after it.
-#   compare_port.sh [PROGRAM [PERCENT [SMALL]]]    PROGRAM: driver/trace.c built over the library (target/driver/trace); PERCENT of each
-#                                                  count (100); SMALL: the small program, if it is to be compared too
+#   compare_port.sh [PROGRAM [PERCENT]]    PROGRAM: driver/trace.c over a library; without, it is built over the proved one. PERCENT of each
+#                                          count (100). The small program has tools/compare_small.sh.
 # 200,000 seeded traces of edits, lookups and cursors (184,000 normal, 16,000 near the limits), 110,000 of writes, every sequence of three
 # calls over three alphabets, every sequence of four over the alphabet of writes. The driver runs as it is, with arrays longer than needed
 # (--roomy) and with probes (--probe), by turns. About twenty minutes of one core.
@@ -9,7 +9,8 @@
 # show a difference. Not to be used again once generator or oracle have changed.
 set -euo pipefail
 cd "$(dirname "$0")/.."
-program=${1:-target/driver/trace} percent=${2:-100} small=${3-}
+program=${1:-target/driver/trace} percent=${2:-100}
+[ $# -gt 0 ] || driver/build.sh
 (cd oracle && cargo build --offline --release -q -j1)
 oracle=oracle/target/release/oracle-trace
 counts=target/port-counts
@@ -65,7 +66,6 @@ for alphabet in edits cursors writes; do
   enumerated $alphabet 3 all
 done
 [ "$percent" -lt 100 ] || enumerated writes 4 cached
-[ -z "$small" ] || python3 tools/compare_small.py --seed 201 --count $((190 * percent)) -- oracle/target/release/oracle-small -- "$small"
 for kind in normal limits write enumerated; do
   echo "== $kind"
   need=0

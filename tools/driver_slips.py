@@ -46,7 +46,7 @@ SLIPS = [
      "    lend_bytes(&raws, table_raws.at, table_raws.len - (table_raws.len > 0));"),
     ("table-of-last-trace", "        set_table(\"-\", \"-\", \"-\");\n", ""),
     ("offsets-start-at-first", "    uint32_t end = (uint32_t)table_raws.len;", "    uint32_t end = (uint32_t)(table_raws.len - len);"),
-    ("sha1-other-turn", "c = sha1_turn(b, 30)", "c = sha1_turn(b, 29)"),
+    ("sha1-other-turn", "c = sha1_rotate(b, 30)", "c = sha1_rotate(b, 29)"),
     # what is given back
     ("empty-for-not-found", "    } else if (got == TREE_EDITOR_DONE) {", "    } else if (got == TREE_EDITOR_DONE || got == TREE_EDITOR_CURSOR_STALE) {"),
     ("invented-length", "number, length_given(0));", "number, (size_t)TREE_EDITOR_OUTPUT);"),
@@ -77,7 +77,7 @@ SLIPS = [
 
 
 def whole(name, seen):
-    """A source of the driver with the driver's own headers in place."""
+    """A source of the driver with the headers that stand beside it, or are named from there, in place."""
     seen.add(name)
     with open(os.path.join(ROOT, "driver", name)) as f:
         lines = f.readlines()
@@ -97,13 +97,14 @@ def noticed(program, mode, answers):
 
 def main():
     p = argparse.ArgumentParser(usage=__doc__)
-    p.add_argument("--library", default="target/staticlib/libadapter.a")
+    p.add_argument("--library")
     p.add_argument("--verbose", action="store_true")
     p.add_argument("labels", nargs="*")
     o = p.parse_args()
     answers = list(compare_traces.replayed(ANSWERS))
     folder = os.path.join(ROOT, "target", "slips")
     os.makedirs(folder, exist_ok=True)
+    library = o.library or subprocess.run([os.path.join(HERE, "library.sh")], check=True, stdout=subprocess.PIPE, text=True).stdout.strip()
     text = whole("trace.c", set())
     tried = wrong = 0
     for label, old, new, *mode in [("none", "", "")] + SLIPS:
@@ -116,7 +117,7 @@ def main():
             continue
         with open(os.path.join(folder, "slip.c"), "w") as f:
             f.write(text.replace(old, new) if old else text)
-        subprocess.run([os.path.join(ROOT, "driver", "build.sh"), o.library, "target/slips/slip", "target/slips/slip.c"], check=True,
+        subprocess.run([os.path.join(ROOT, "driver", "build.sh"), library, "target/slips/slip", "target/slips/slip.c"], check=True,
                        env=dict(os.environ, CFLAGS="-O0 -w"))
         how = noticed(os.path.join(folder, "slip"), mode, answers)
         if o.verbose:

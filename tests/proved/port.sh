@@ -1,14 +1,9 @@
 #!/usr/bin/env bash
 # The compiled port, called from C, gives the Rust's recorded answers, document 01's cases and edges among them, and leaves the same trees after
 # each call; slips in the driver are noticed; where cargo is at hand, some fresh traces are compared with the Rust itself.
-#   tests/port.sh [LIBRARY]    the proved library is built by default
 set -euo pipefail
-cd "$(dirname "$0")/.."
-mkdir -p target
-library=${1:-target/staticlib/libadapter.a}
-if [ $# -eq 0 ]; then
-  rt staticlib adapter > target/staticlib.log 2>&1 || { cat target/staticlib.log; exit 1; }
-fi
+cd "$(dirname "$0")/../.."
+library=$(tools/library.sh)
 driver/build.sh "$library"
 for mode in "" --roomy --probe; do
   python3 tools/compare_traces.py --quiet --need 0,1,2,3,4,5,6,7,8,9,10,11,12,13,none \
