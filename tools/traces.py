@@ -423,6 +423,7 @@ def written(m):
 def limits(m, length):
     m.say("dump sum")
     m.pick_names(4, long_too=False)
+    m.build_table(m.r.randrange(4), big=0.1)
     m.say("new -")
     m.one((1, lambda: near_trees(m)), (1, lambda: near_entries(m)), (1, lambda: near_names(m)),
           (1, lambda: near_paths(m)), (1, lambda: near_two(m)))
@@ -430,7 +431,8 @@ def limits(m, length):
         what = m.r.randrange(20)
         if what < 12:
             p = m.prefix()
-            path = m.one((3, lambda: m.plain_path(6)), (2, m.known_path), (1, lambda: below(m.known_path(), m.name())))
+            path = m.one((6, lambda: m.plain_path(6)), (4, m.known_path), (2, lambda: below(m.known_path(), m.name())),
+                         (1, m.odd_path), (1, lambda: m.known_path() + b"//" + m.name()))
             m.say(m.one((4, "upsert %s %s 100644 %s" % (p, out_hex(path), BLOB_IDS[1].hex())),
                         (1, "upsert %s %s 40000 %s" % (p, out_hex(path), m.tree_id().hex())),
                         (2, "cursor " + out_hex(path)), (2, "remove %s %s" % (p, out_hex(path))),
