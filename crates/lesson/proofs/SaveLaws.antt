@@ -16,7 +16,7 @@ use Rattle.model.specs.Valid.{valid}
 use Rattle.model.specs.Write.{linked, asking, writeOf, closed, pickEditor, answeredIn, answered, requested, Shown, shown, short, unopened, show, begun}
 use Rattle.model.proofs.Basics.{no-way, and-false, none-some}
 use Rattle.model.proofs.RoomCounts.{trees-total}
-use Rattle.model.proofs.SameRequests.{left}
+use Rattle.model.proofs.SameRequests.{left, linked-some}
 use Rattle.model.proofs.Theorems.{output-20}
 use Rattle.model.proofs.ValidSums.{Sane, aTree}
 use Rattle.model.proofs.WriteKeeps.{valid-ask, sum3}
@@ -119,11 +119,6 @@ few-in c (some w) v =
 pub pending-few : (E : Editor) → valid sha1 E ≡ true → pending E ≤ 64
 unfolding pending
 pending-few E v = few-in (E .cached) (E .writing) v
-
-linked-some : (i p : Bytes) (hs : List Held) → isNil hs ≡ false → isNil (linked i p hs) ≡ false
-unfolding linked
-linked-some i p [] e = e
-linked-some i p (h ∷ hs) e = refl
 
 closed-none : (s : Start) (h : Held) (c : Cache) → pending (closed s h c) ≡ 0
 unfolding closed pending
