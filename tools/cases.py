@@ -66,30 +66,30 @@ def paths():
     case("edge-names", "Names of 255 pass, 256 don't", "new -", up("n" * 255), up("n" * 256), "get . " + h("n" * 255),
          "get . " + h("n" * 256))
     case("edge-paths", "Paths of 1,024 pass, 1,025 don't; a zero-byte path below a prefix of 1,024 does nothing",
-         "new -", "dump off", up(path(1024)), up(path(1025)), "cursor " + h(path(1024)), "get . " + h(path(1024)),
+         "new -", "dump sum", up(path(1024)), up(path(1025)), "cursor " + h(path(1024)), "get . " + h(path(1024)),
          "get . " + h(path(1025)), up("", at=h(path(1024))), up("x", at=h(path(1024))), "show")
     at = h(path(1000))
     case("edge-prefix", "A prefix of 1,000 with a path of 23 makes 1,024; with 24 it is refused",
-         "new -", "dump off", "cursor " + at, up("x" * 23, at=at), up("x" * 24, at=at), "get %s %s" % (at, h("x" * 23)),
+         "new -", "dump sum", "cursor " + at, up("x" * 23, at=at), up("x" * 24, at=at), "get %s %s" % (at, h("x" * 23)),
          "get %s %s" % (at, h("x" * 24)), "show", "finish .")
 
 
 def limits():
     case("edge-trees", "The 65th tree gives 5 and changes nothing; freed room is used again",
-         "new -", "dump off", *["cursor " + h("t%02d" % k) for k in range(63)], "cursor " + h("u"), up("u/f"), up("u//"),
+         "new -", "dump sum", *["cursor " + h("t%02d" % k) for k in range(63)], "cursor " + h("u"), up("u/f"), up("u//"),
          up("v", "40000", "22" * 20), up("v/f"), up("t00/f"), "finish .", "cursor " + h("u"), "show")
     full = raw(*[("100644", "%04d" % k, B) for k in range(1020)])
     few = raw(("100644", "x", B), ("100644", "y", B))
     case("edge-entries", "1,024 entries pass, 1,025 don't, even where the removal's last step would make room again",
-         "dump off", "object %s %s" % ("d1" * 20, full), "object %s %s" % ("d2" * 20, few),
+         "dump sum", "object %s %s" % ("d1" * 20, full), "object %s %s" % ("d2" * 20, few),
          "new " + raw(("40000", "a", "d1" * 20), ("40000", "b", "d2" * 20)), up("a/x"), "remove . " + h("b/x"),
          "leaf . " + h("b/x"), "remove . " + h("a/x"), "remove . " + h("b/x"), up("a/x"), up("a/y"), up("a/z"), up("a/z/"),
          up("a/x", "40000"), "remove . " + h("a/0000"), up("a/z"))
     long = raw(*[("100644", "%02d" % k + "n" * 253, B) for k in range(64)])
-    case("edge-name-bytes", "16,384 name bytes pass, 16,385 don't", "dump off", "new " + long, up("x" * 65), up("x" * 64),
+    case("edge-name-bytes", "16,384 name bytes pass, 16,385 don't", "dump sum", "new " + long, up("x" * 65), up("x" * 64),
          up("y"), "cursor " + h("y"), up("x" * 64, "40000"), "remove . " + h("x" * 64), up("y" * 32), up("z" * 32), up("a"))
     chain = ["cursor " + h("/".join([c * 255] + ["n" * 255] * 3)) for c in "abc"]
-    case("edge-path-bytes", "8,192 path bytes pass, 8,193 don't", "dump off", "new -", *chain, "cursor " + h("p" * 255),
+    case("edge-path-bytes", "8,192 path bytes pass, 8,193 don't", "dump sum", "new -", *chain, "cursor " + h("p" * 255),
          "cursor " + h("q" * 255), "cursor " + h("r" * 15), "cursor " + h("r" * 14), "cursor " + h("s"), up("s/"), up("s"),
          "finish .", "cursor " + h("s"))
 
@@ -136,7 +136,7 @@ def writes():
          "new -", up("a", ident=N), up("b/c"), up("b/n", ident=N), up("b/d/e"), up("q/n", ident=N), "begin .", "fail", "show",
          up("b/n", ident=N), up("b/d/e"), "begin .", "answer " + B, "answer " + B, "fail", "show")
     case("left-over", "A cached tree outlives its entry; a write from the root drops it, a cursor's keeps it",
-         "new -", up("a/b"), up("a"), "get %s %s" % (h("a"), h("b")), up("c", at=h("a")), "finish -", "finish " + h("a"),
+         "new -", up("a/b"), up("a"), "get . " + h("a/b"), "get %s %s" % (h("a"), h("b")), up("c", at=h("a")), "finish -", "finish " + h("a"),
          "finish .", "get %s %s" % (h("a"), h("b")))
     case("output", "Output short by one; other calls while a request is open", "new -", up("a"), "begin .", "read 0", "read 27",
          "read 28", "read 29", up("b"), "remove . " + h("a"), "leaf . " + h("a"), "cursor " + h("a"), "get . " + h("a"),

@@ -7,11 +7,17 @@
 TRACES are files of oracle/PROTOCOL.md, `-` for standard input. ANSWERS is a file made by --record from one program's
 answers: silent lines of input stand behind `> `, and the other calls are read off the answers themselves.
 Options: --batch N (calls given to a program at once, 20000), --no-shrink, --record FILE (write the first program's
-answers), --need N,M,.. (these numbers must occur), --quiet.
+answers), --need N,M,.. (these numbers must occur), --counts FILE (add the counts to FILE's, a JSON file, and print their
+sum), --digests FILE (SHA-256 of the first program's answers, batch by batch: written, or where FILE stands used, so that the
+first program runs only to show a difference), --quiet.
 Exit status 1 on a difference, a crash, or a number that was needed and did not occur.
 """
 import argparse
 import collections
+import hashlib
+import json
+import os
+import re
 import subprocess
 import sys
 
@@ -57,13 +63,18 @@ def replayed(name):
 
 
 def run(command, calls):
+    """What a program prints for these calls; where it ends badly, that is a line of its own."""
     done = subprocess.run(command, input="".join(c + "\n" for c in calls).encode(), stdout=subprocess.PIPE,
                           stderr=subprocess.PIPE)
-    out = done.stdout.decode("ascii", "replace").splitlines()
+    out = done.stdout
     if done.returncode:
         last = done.stderr.decode("utf-8", "replace").strip().splitlines()[-3:]
-        out.append("!! ended with status %d: %s" % (done.returncode, " | ".join(last)))
+        out += ("!! ended with status %d: %s\n" % (done.returncode, " | ".join(last))).encode()
     return out
+
+
+def lines_of(out):
+    return out.decode("ascii", "replace").splitlines()
 
 
 def first_difference(a, b):
@@ -106,19 +117,49 @@ def shrunk(trace, differs):
 
 
 class Counts:
+    """How often each call gave each number; for failed writes, at which request; writes begun, by where they start."""
+
+    ANSWER = re.compile(rb" => (\w+)( done)?")
+
     def __init__(self):
         self.by_kind = collections.Counter()
         self.by_number = collections.Counter()
+        self.failed_at = collections.Counter()
+        self.begun = collections.Counter()
         self.traces = 0
+        self.request = 0
 
-    def add(self, answers):
-        for line in answers:
-            if line.startswith(" ") or " => " not in line:
-                continue
-            call, answer = line.split(" => ", 1)
-            number = answer.split()[0]
-            self.by_kind[call.split()[0], number] += 1
+    def add(self, out):
+        """The answers in a program's output; calls stand at the beginning of a line."""
+        for found in self.ANSWER.finditer(out):
+            start = out.rfind(b"\n", 0, found.start()) + 1
+            call = out[start:out.find(b" ", start)].decode()
+            number = found[1].decode()
+            self.by_kind[call, number] += 1
             self.by_number[number] += 1
+            if number == "0" and call in ("begin", "answer", "fail", "finish"):
+                self.add_write(call, found[2], out[start:start + 64].split())
+
+    def add_write(self, call, done, words):
+        if call in ("begin", "finish"):
+            self.begun["root" if words[1] == b"." else "cursor at the root" if words[1] == b"-" else "cursor"] += 1
+        if call == "fail":
+            self.failed_at[str(self.request)] += 1
+        self.request = 1 if call == "begin" else self.request + 1
+
+    def merge(self, name):
+        """Adds what the file holds, and writes the sum back."""
+        if os.path.exists(name):
+            with open(name) as f:
+                old = json.load(f)
+            self.traces += old["traces"]
+            self.by_number.update(old["by_number"])
+            self.failed_at.update(old["failed_at"])
+            self.begun.update(old["begun"])
+            self.by_kind.update({tuple(k.split()): n for k, n in old["by_kind"].items()})
+        with open(name, "w") as f:
+            json.dump({"traces": self.traces, "by_number": self.by_number, "failed_at": self.failed_at, "begun": self.begun,
+                       "by_kind": {" ".join(k): n for k, n in self.by_kind.items()}}, f)
 
     def text(self):
         order = [str(n) for n in range(14)] + ["none"]
@@ -131,8 +172,34 @@ class Counts:
         rows.append(["all"] + [self.by_number[n] for n in shown] + [sum(self.by_number.values())])
         widths = [max(len(str(r[k])) for r in rows) for k in range(len(rows[0]))]
         lines = ["  ".join(str(c).rjust(w) for c, w in zip(r, widths)) for r in rows]
+        if self.begun:
+            lines.append("writes begun: " + ", ".join("%s %d" % pair for pair in sorted(self.begun.items())))
+        if self.failed_at:
+            lines.append("failed at request: " + ", ".join("%s: %d" % (k, self.failed_at[k]) for k in sorted(self.failed_at, key=int)))
         return "\n".join(["%d traces, %d calls; answers by number:" % (self.traces, sum(self.by_number.values()))]
                          + lines)
+
+
+class Digests:
+    """Those of one program's answers to each batch; without a name, none are known and none are kept."""
+
+    def __init__(self, name):
+        self.name, self.known, self.made = name, [], []
+        if name and os.path.exists(name):
+            with open(name) as f:
+                self.known = f.read().split()
+
+    def has(self, number, out):
+        return number < len(self.known) and self.known[number] == hashlib.sha256(out).hexdigest()
+
+    def add(self, out):
+        if self.name:
+            self.made.append(hashlib.sha256(out).hexdigest())
+
+    def close(self):
+        if self.name and not self.known:
+            with open(self.name, "w") as f:
+                f.write("".join(d + "\n" for d in self.made))
 
 
 def report(names, trace, answers, other, found):
@@ -181,6 +248,8 @@ def main():
     p.add_argument("--batch", type=int, default=20000)
     p.add_argument("--no-shrink", action="store_true")
     p.add_argument("--need", default="")
+    p.add_argument("--counts")
+    p.add_argument("--digests")
     p.add_argument("--quiet", action="store_true")
     o = p.parse_args(argv)
     if len(commands) != (1 if o.replay or o.record else 2):
@@ -193,20 +262,25 @@ def main():
         record.write("".join("# %s\n" % line for line in o.header.split("|")))
 
     def both(trace, known):
-        return known if known is not None else run(commands[0], trace), run(commands[-1], trace)
+        return known if known is not None else lines_of(run(commands[0], trace)), lines_of(run(commands[-1], trace))
 
-    counts = Counts()
-    for batch in batches(items, o.batch):
+    counts, digests = Counts(), Digests(o.digests)
+    for number, batch in enumerate(batches(items, o.batch)):
         calls = [c for t, _ in batch for c in t]
-        a = [x for _, k in batch for x in k] if o.replay else run(commands[0], calls)
+        b = b"" if record else run(commands[-1], calls)
+        if digests.has(number, b):
+            a = b
+        else:
+            a = "".join(x + "\n" for _, k in batch for x in k).encode() if o.replay else run(commands[0], calls)
+            digests.add(a)
         counts.add(a)
         counts.traces += len(batch)
         if record:
-            write_record(record, calls, a)
+            write_record(record, calls, lines_of(a))
             continue
-        found = first_difference(a, run(commands[-1], calls))
-        if not found:
+        if a == b:
             continue
+        found = first_difference(lines_of(a), lines_of(b))
         one = locate(batch, both)
         if one is None:
             print("DIFFERENCE in a batch, none in its traces alone: state left over from one trace to the next")
@@ -221,14 +295,17 @@ def main():
             print("\nShrunk:")
             report(names, less, a, b, first_difference(a, b))
         sys.exit(1)
+    digests.close()
+    if not record:
+        print("no difference: %d traces, %d calls" % (counts.traces, sum(counts.by_number.values())))
+    if o.counts:
+        counts.merge(o.counts)
     missing = [n for n in o.need.split(",") if n and not counts.by_number[n]]
     if not o.quiet:
         print(counts.text())
     if missing:
         print("these numbers did not occur: " + ", ".join(missing))
         sys.exit(1)
-    if not record:
-        print("no difference: %d traces, %d calls" % (counts.traces, sum(counts.by_number.values())))
 
 
 def write_record(record, calls, answers):

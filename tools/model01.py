@@ -7,6 +7,7 @@ with --small it is the small program. Options: --brief (no dumps), --small.
 """
 import hashlib
 import sys
+import zlib
 
 TREE = 0o40000
 MODES = {b"40000": 0o40000, b"100644": 0o100644, b"100755": 0o100755, b"120000": 0o120000, b"160000": 0o160000}
@@ -354,13 +355,18 @@ def in_prefix(s):
     return None if s == "." else in_hex(s)
 
 
-def dump(cache, label, full):
+def dump(cache, label, shown):
+    """shown: `on` for all lines, `sum` for their Adler-32, `off` for the counts alone."""
     out = [" %s trees=%d entries=%d names=%d paths=%d" % ((label,) + room(cache))]
-    if full:
-        for path in sorted(cache):
-            out.append("  tree %s %d" % (out_hex(path), len(cache[path].by_name)))
-            out += ["   %o %s %s" % (m, out_hex(n), i.hex()) for m, n, i in cache[path].entries()]
-    return out
+    if shown == "off":
+        return out
+    lines = []
+    for path in sorted(cache):
+        lines.append("  tree %s %d" % (out_hex(path), len(cache[path].by_name)))
+        lines += ["   %o %s %s" % (m, out_hex(n), i.hex()) for m, n, i in cache[path].entries()]
+    if shown == "sum":
+        lines = ["  sum %08x" % zlib.adler32("".join(line + "\n" for line in lines).encode())]
+    return out + lines
 
 
 class Speaker:
@@ -369,7 +375,7 @@ class Speaker:
     SILENT = ("trace", "object", "table", "read", "dump", "decode", "sort")
 
     def __init__(self, brief=False):
-        self.s, self.full, self.brief = Session(), True, brief
+        self.s, self.shown, self.brief = Session(), "on", brief
 
     def line(self, line):
         words = line.split()
@@ -377,27 +383,27 @@ class Speaker:
             return []
         out = getattr(self, "do_" + words[0])(line, *words[1:])
         if words[0] == "show" or (words[0] not in self.SILENT and not self.brief):
-            out += self.state(self.full or words[0] == "show")
+            out += self.state("on" if words[0] == "show" else self.shown)
         return out
 
-    def state(self, full):
+    def state(self, shown):
         if self.s.write:
-            return dump(self.s.write.after_failure(), "if-fail", full)
-        return [" no editor"] if self.s.cache is None else dump(self.s.cache, "state", full)
+            return dump(self.s.write.after_failure(), "if-fail", shown)
+        return [" no editor"] if self.s.cache is None else dump(self.s.cache, "state", shown)
 
     @staticmethod
     def says(line, answer):
         return ["%s => %s" % (line, answer)]
 
     def do_trace(self, line, *_):
-        self.s, self.full = Session(), True
+        self.s, self.shown = Session(), "on"
         return [line]
 
     def do_show(self, line):
         return ["show"]
 
     def do_dump(self, line, switch):
-        self.full = switch == "on"
+        self.shown = switch
         return []
 
     def do_object(self, line, ident, raw):

@@ -5,13 +5,13 @@ set -euo pipefail
 cd "$(dirname "$0")/.."
 (cd oracle && cargo build --offline --release -q -j1)
 mkdir -p target
-shows() {  # full dumps at some calls only, to keep the file small
-  awk '/^trace /{print; print "dump off"; next} /^dump/{next} {print} NR % 6 == 0 && !/^object|^table/{print "show"}'
+shows() {  # sums of dumps, in full at some calls only, to keep the file small
+  awk '/^trace /{print; print "dump sum"; next} /^dump/{next} {print} NR % 12 == 0 && !/^object|^table/{print "show"}'
 }
 {
   python3 tools/cases.py | grep -v '^#' | grep .
-  python3 tools/traces.py --seed 2026 --count 150 --kind normal --length 16 --most 3000 | shows
-  python3 tools/traces.py --seed 2026 --count 90 --kind write --length 16 --most 4000 | shows
+  python3 tools/traces.py --seed 2026 --count 260 --kind normal --length 16 --most 3000 | shows
+  python3 tools/traces.py --seed 2026 --count 150 --kind write --length 16 --most 4000 | shows
   python3 tools/traces.py --seed 2026 --count 60 --kind limits --length 20 --most 12000 | grep -v '^show'
 } > target/fixed-list.txt
 python3 tools/compare_traces.py --record tests/data/oracle-answers.txt \

@@ -3,9 +3,11 @@
 
     traces.py [--seed N] [--count N] [--kind normal|limits|write|all] [--length N] [--most BYTES]
 
-normal: few names that collide, tables with good, damaged and missing trees, refused paths, stale cursors, bad tables.
-limits: stores near one of the limits of room, so that number 5 comes at different steps.
-write: writes from the root and from cursors, short output, other calls in between, failure at each request.
+normal: few names that collide, tables with good, damaged and missing trees, refused paths, stale cursors, bad tables;
+paths and prefixes of any bytes and any length; prefixes and paths that make 1,024 bytes together, or one more.
+limits: stores near one of the limits of room, so that number 5 comes at different steps. Dumps are sums there.
+write: writes from the root and from cursors, short output, other calls in between, the same write failed at each of its
+requests, up to 64 of them, cursors' writes inside one another, answers that are null, the empty tree's or all the same.
 --most leaves out traces with more text than that. The generator follows the state with tools/model01.py, only to aim well: a wrong model would make dull traces, no more.
 """
 import argparse
@@ -36,6 +38,7 @@ class Maker:
         self.speaker = Speaker(brief=True)
         self.lines = []
         self.ids = []  # ids worth naming in tree entries
+        self.answers = self.r.choice([None] * 7 + [NULL, EMPTY_TREE, b"\x44" * 20])  # the same for all, if any
         self.made = 0
         self.say("trace " + label)
 
@@ -133,12 +136,15 @@ class Maker:
         return bytes(self.r.randrange(256) for _ in range(self.r.randrange(1, 40)))
 
     def big_raw(self):
-        """Trees at or past a limit of room; a few are damaged behind that."""
-        return self.big_good() + (b"x" if self.r.random() < 0.15 else b"")
+        """Trees at or past a limit of room; some are damaged, at their front or behind everything else."""
+        good = self.big_good()
+        return self.one((13, good), (2, good + b"x"), (1, b"40000 a/\0" + bytes(20) + good), (1, good + good[:300]),
+                        (1, lambda: good + raw_of([(b"40000", good[7:good.index(b"\0")], NULL)])),
+                        (1, lambda: raw_of([(b"100644", b"%05d" % (4000 - n), BLOB_IDS[0]) for n in range(3000)])))
 
     def big_good(self):
         b = self.r.choice(BLOB_IDS)
-        k = self.r.randrange(6)
+        k = self.r.randrange(7)
         if k < 2:
             return raw_of([(b"100644", b"%04d" % n, b) for n in range(1024 + k)])
         if k < 4:  # 16,384 name bytes, or one more
@@ -146,6 +152,8 @@ class Maker:
                           + [(b"100644", b"x" * (64 + k - 2), b)])
         if k == 4:
             return raw_of([(b"100644", b"%04d" % n, b) for n in range(self.r.choice([990, 1000, 1020]))])
+        if k == 5:  # both limits, and the longest output
+            return raw_of([(b"100644", b"%016d" % n, b) for n in range(1024)])
         return raw_of([(b"100644", b"%03d" % n + b"n" * 252, b) for n in range(self.r.choice([60, 63, 64]))])
 
     def build_table(self, n, big=0.02):
@@ -162,7 +170,7 @@ class Maker:
     def bad_table(self):
         t = self.s.table
         ids, ends, raws = t.ids, list(t.ends), t.raws
-        k = self.r.randrange(6)
+        k = self.r.randrange(10)
         if k == 0:
             ids = ids[:-1] if ids else b"\x01"
         elif k == 1:
@@ -173,6 +181,15 @@ class Maker:
             ends = ends[:-1] + [len(raws) + 1] if ends else [0]
         elif k == 4:
             ends = [5] + ends[1:-1] + [0] if len(ends) > 1 else [4294967295]
+        elif k == 5:  # falling by one, in the middle
+            ids, raws = ids + b"\x01" * 40, raws + b"\0" * 4
+            ends = ends + [len(raws), len(raws) - 1]
+        elif k == 6:
+            ids, ends, raws = b"", [], raws  # no objects: good
+        elif k == 7:
+            ends = [self.r.choice([0, 1, len(raws), len(raws) + 1, 2 ** 31, 2 ** 32 - 1]) for _ in ends]
+        elif k == 8:
+            ids, ends, raws = self.r.randbytes(self.r.randrange(90)), ends, raws[:-1]
         else:
             raws = raws + b"\0" * 3  # bytes past the last offset: still good
         good = "table %s %s %s" % (out_hex(t.ids), ",".join(map(str, t.ends)) or "-", out_hex(t.raws))
@@ -185,7 +202,19 @@ class Maker:
         paths = list(self.s.cache or [b""])
         return self.one((6, "."), (1, "-"), (4, lambda: out_hex(self.r.choice(paths))),
                         (1, lambda: out_hex(self.plain_path(2))),
-                        (1, lambda: out_hex(below(self.r.choice(paths), self.name()))))
+                        (1, lambda: out_hex(below(self.r.choice(paths), self.name()))),
+                        (1, lambda: out_hex(self.near_prefix(self.r.choice(paths)))))
+
+    def near_prefix(self, cached):
+        """Nearly a path that is cached, or any bytes."""
+        return self.one((1, cached + b"/"), (1, cached[:-1]), (1, cached + b"\0"), (1, b"/" + cached), (1, self.any_path))
+
+    def any_path(self):
+        """Any bytes, and any length."""
+        most = self.r.choice([1, 2, 3, 8, 40, 255, 256, 700, 1023, 1024, 1025, 1500, 5000])
+        size = 70000 if self.r.random() < 0.01 else self.r.randrange(most + 1)
+        alphabet = self.r.choice([bytes(range(256)), bytes(range(1, 256)), bytes(range(1, 256)), b"ab/", b"/\0a", b"\xff\xfe/"])
+        return bytes(self.r.choices(alphabet, k=size))
 
     def plain_path(self, most=4):
         return b"/".join(self.name() for _ in range(self.r.randrange(1, most + 1)))
@@ -234,7 +263,8 @@ class Maker:
 
     def path(self, prefix="."):
         return self.one((8, self.plain_path), (5, self.known_path), (5, lambda: below(self.known_path(), self.name())),
-                        (1, self.odd_path), (1, b""), (1, self.deep_path), (1, lambda: self.edge_path(prefix)))
+                        (1, self.odd_path), (1, b""), (1, self.deep_path), (1, lambda: self.edge_path(prefix)),
+                        (1, self.any_path))
 
     # calls
     def mode(self):
@@ -277,7 +307,7 @@ class Maker:
         self.say("read %d" % self.r.choice([0, 1, max(0, need - 1), need, need, need + 1, 45056]))
 
     def answer(self):
-        self.say("answer " + self.one((1, NULL), (1, EMPTY_TREE), (2, b"\x44" * 20), (4, self.fresh_id)).hex())
+        self.say("answer " + (self.answers or self.one((1, NULL), (1, EMPTY_TREE), (2, b"\x44" * 20), (4, self.fresh_id))).hex())
 
 
 def normal(m, length):
@@ -383,9 +413,17 @@ def near_two(m):
     m.names = [b"t00", b"t01", b"t02", b"a", b"b"]
 
 
+def written(m):
+    """A write, read at its requests, and failed at some."""
+    m.say("begin " + m.prefix())
+    while m.s.write:
+        m.one((2, m.read), (4, m.answer), (1, lambda: m.say("fail")))
+
+
 def limits(m, length):
-    m.say("dump off")
+    m.say("dump sum")
     m.pick_names(4, long_too=False)
+    m.build_table(m.r.randrange(4), big=0.1)
     m.say("new -")
     m.one((1, lambda: near_trees(m)), (1, lambda: near_entries(m)), (1, lambda: near_names(m)),
           (1, lambda: near_paths(m)), (1, lambda: near_two(m)))
@@ -393,7 +431,8 @@ def limits(m, length):
         what = m.r.randrange(20)
         if what < 12:
             p = m.prefix()
-            path = m.one((3, lambda: m.plain_path(6)), (2, m.known_path), (1, lambda: below(m.known_path(), m.name())))
+            path = m.one((6, lambda: m.plain_path(6)), (4, m.known_path), (2, lambda: below(m.known_path(), m.name())),
+                         (1, m.odd_path), (1, lambda: m.known_path() + b"//" + m.name()))
             m.say(m.one((4, "upsert %s %s 100644 %s" % (p, out_hex(path), BLOB_IDS[1].hex())),
                         (1, "upsert %s %s 40000 %s" % (p, out_hex(path), m.tree_id().hex())),
                         (2, "cursor " + out_hex(path)), (2, "remove %s %s" % (p, out_hex(path))),
@@ -401,9 +440,11 @@ def limits(m, length):
         elif what < 14:
             m.get()
         elif what == 14 and k > length // 2:
-            m.finish()
+            m.one((2, m.finish), (1, lambda: written(m)))
         elif what == 15 and m.r.random() < 0.3:
             m.say("%s %s" % (m.r.choice(["new", "setroot"]), out_hex(m.big_raw())))
+            if m.r.random() < 0.3:
+                written(m)
         else:
             m.say("upsert . %s %s %s" % (out_hex(m.plain_path(2)), m.mode(), m.any_id().hex()))
     m.say("show")
@@ -423,9 +464,8 @@ def set_up(m):
     return out
 
 
-def fail_everywhere(m):
+def fail_everywhere(m, calls, start=None):
     """The same write failed at each of its requests."""
-    calls, start = set_up(m), None
     asked = 0
     while True:
         for call in calls:
@@ -437,19 +477,62 @@ def fail_everywhere(m):
         m.say("begin " + start)
         for k in range(asked):
             if m.s.write:
-                m.say("answer " + (b"\x55" * 19 + bytes([k])).hex())
-        if not m.s.write or asked > 12:
+                m.say("answer " + (m.answers or b"\x55" * 19 + bytes([k])).hex())
+        if not m.s.write:
             return
         m.say("fail")
         m.say("finish .")
         asked += 1
 
 
+def many_requests(m):
+    """A write of 20 to 64 requests, failed at each."""
+    m.say("dump sum")
+    groups, each = m.r.choice([(1, 62), (7, 8), (9, 6), (3, 20), (20, 0), (4, 5)])
+    calls = []
+    for g in range(groups):
+        calls += ["upsert . %s 100644 %s" % (out_hex(b"g%02d/t%02d/f" % (g, k)), BLOB_IDS[0].hex()) for k in range(each)]
+        calls.append("upsert . %s 100644 %s" % (out_hex(b"g%02d/f" % g), BLOB_IDS[0].hex()))
+    m.r.shuffle(calls)
+    fail_everywhere(m, ["new -"] + calls, m.r.choice([".", ".", "-", out_hex(b"g00")]))
+
+
+def nested(m):
+    """Cursors' writes inside one another, out of the innermost or into the outermost, some failed; edits in between."""
+    for call in set_up(m):
+        m.say(call)
+    if m.s.cache is None:
+        return
+    inner = m.r.choice(sorted(m.s.cache, key=len)[-3:]).split(b"/")
+    chain = [".", "-"] + [out_hex(b"/".join(inner[:k])) for k in range(1, len(inner) + 1)]
+    for start in (chain[::-1] if m.r.random() < 0.7 else chain) + chain[:m.r.randrange(3)]:
+        if m.r.random() < 0.5:
+            m.say("upsert %s %s 100644 %s" % (start, out_hex(m.plain_path(3)), BLOB_IDS[0].hex()))
+        if m.r.random() < 0.2:
+            m.edit()
+        m.say("begin " + start)
+        left = m.r.choice([100, 100, 0, 1, 2, 3])
+        while m.s.write:
+            if left == 0:
+                m.say("fail")
+            elif m.r.random() < 0.2:
+                m.read()
+            else:
+                m.answer()
+                left -= 1
+        m.get()
+
+
 def write(m, length):
     m.pick_names(m.r.randrange(2, 6), long_too=False)
     m.build_table(m.r.randrange(0, 4), big=0)
-    if m.r.random() < 0.3:
-        return fail_everywhere(m)
+    which = m.r.random()
+    if which < 0.3:
+        return fail_everywhere(m, set_up(m))
+    if which < 0.45:
+        return nested(m)
+    if which < 0.452:
+        return many_requests(m)
     if m.r.random() < 0.1:
         m.write_call()
     for call in set_up(m):
