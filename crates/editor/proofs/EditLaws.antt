@@ -83,7 +83,7 @@ module _ (T : Table) (e : Edit) (deep : Bool) (prefix path : Bytes) (E : Model) 
 
 -- ---- an editor with no write open
 
-no-writing : (n : ℕ) (h : Held) (us ss : List Held) → n ≡ 0 → writeOf n h us ss ≡ none
+pub no-writing : (n : ℕ) (h : Held) (us ss : List Held) → n ≡ 0 → writeOf n h us ss ≡ none
 no-writing zero h us ss e = refl
 no-writing (suc n) h us ss e = absurd (omega (arith, e))
 

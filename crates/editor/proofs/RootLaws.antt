@@ -13,12 +13,11 @@ use Rattle.model.specs.Bytes.{Bytes}
 use Rattle.model.specs.Map.{find, put, isSome}
 use Rattle.model.specs.Tree.{Tree, nameBytes}
 use Rattle.model.specs.Raw.{readTree}
-use Rattle.model.specs.Editor.{Held, at, Cache, Write, fits}
+use Rattle.model.specs.Editor.{at, Cache, Write, fits}
 use Rattle.model.specs.Editor.{Editor as Model}
 use Rattle.model.specs.Formats.{sha1}
 use Rattle.model.specs.Calls.{Answer, refuseIf, rootOnly, rooted, setRoot}
 use Rattle.model.specs.Valid.{valid}
-use Rattle.model.proofs.Basics.{none-some}
 use Rattle.model.proofs.CallsKeep.{fresh-valid}
 use Rattle.names.specs.Check.{sizeOf}
 use Rattle.names.specs.Answers.{checkedAs}
@@ -29,11 +28,13 @@ use Rattle.runs.specs.Runs.{cut}
 use Rattle.slots.specs.View.{slotsOf, gather, heldAs, heldAt, viewOf, asideOf, stackedOf, writeOf, editorOf, Laid, Holds, SameWrite, treeRoom, fresh}
 use Rattle.slots.specs.declared.Editor.{Editor}
 use Rattle.trees.proofs.Loads.{takes, as-many, as-long}
+use Rattle.walk.proofs.LandLaws.{size-none}
 use Rattle.store.specs.Decides.{Decides}
 use Rattle.store.proofs.Deciding as deciding
 use Rattle.store.proofs.StoredLaws.{sha1-width, sha1-room}
 use Rattle.editor.specs.Lent.{Lent, lent, Long, Good, viewed, Behind, Does}
 use Rattle.editor.specs.Roots.{Roots, Makes}
+use Rattle.editor.proofs.EditLaws.{no-writing}
 
 -- ---- the room that a root takes
 
@@ -106,12 +107,8 @@ stays raw s code e n =
       kept = λ h. refl;
     }
 
-unread : (o : Option Tree) → none ≡ sizeOf o → o ≡ none
-unread none e = refl
-unread (some t) e = none-some (record { entries = length t; bytes = nameBytes t }) e
-
 pub no-root : (raw : Bytes) (s : Lent) (r : Checked) → checkedAs r ≡ sizeOf (readTree 20 raw) → r ≡ Broken → Roots raw s 12 s
-no-root raw s r e f = stays raw s 12 (rooted-none (viewed s) ∙ sym (ap (rooted (viewed s)) (unread (readTree 20 raw) (sym (ap checkedAs f) ∙ e)))) (λ z. omega (arith, z))
+no-root raw s r e f = stays raw s 12 (rooted-none (viewed s) ∙ sym (ap (rooted (viewed s)) (size-none (readTree 20 raw) (sym (ap checkedAs f) ∙ e)))) (λ z. omega (arith, z))
 
 module _ (raw : Bytes) (s : Lent) (n m : ℕ) (size : sizeOf (readTree 20 raw) ≡ some (record { entries = n; bytes = m })) where
   abbrev root : Tree
@@ -179,16 +176,13 @@ module _ (q : Editor) (e₁ e₂ e₃ e₄ p₁ p₂ p₃ p₄ order : List ℕ)
 
 -- ---- the store with the root alone
 
-nothing-open : (n : ℕ) (h : Held) (us ss : List Held) → n ≡ 0 → writeOf n h us ss ≡ none
-nothing-open n h us ss e = ap (λ (k : ℕ). writeOf k h us ss) e
-
 module _ (q : Editor) (plens paths tlens trees : List ℕ) (t : Tree) (l : Laid 20 q plens paths tlens trees) (h : q .hidden ≡ q .free) (o : SameWrite fresh q)
     (v : viewOf 20 q plens paths tlens trees ≡ alone t) (order : List ℕ) where
   pub root-view : editorOf 20 q plens paths tlens trees order ≡ rootOnly t
   unfolding rootOnly
   root-view =
       let wr : Option Write = writeOf (q .«open») (heldAt 20 plens paths tlens trees (q .asked)) (asideOf 20 q plens paths tlens trees order) (stackedOf 20 q plens paths tlens trees order) in
-      let w : wr ≡ none = nothing-open (q .«open») (heldAt 20 plens paths tlens trees (q .asked)) (asideOf 20 q plens paths tlens trees order) (stackedOf 20 q plens paths tlens trees order) (o .«open») in
+      let w : wr ≡ none = no-writing (q .«open») (heldAt 20 plens paths tlens trees (q .asked)) (asideOf 20 q plens paths tlens trees order) (stackedOf 20 q plens paths tlens trees order) (o .«open») in
       ap (λ (n : ℕ). record { cached = gather (slotsOf 20 (digits 64 n) (cut plens paths) (cut tlens trees)); writing = wr }) h
       ∙ ap (λ (c : Cache). record { cached = c; writing = wr }) v
       ∙ ap (λ (x : Option Write). record { cached = alone t; writing = x }) w

@@ -16,7 +16,7 @@ use Rattle.model.specs.Valid.{valid}
 use Rattle.model.specs.Write.{linked, asking, writeOf, closed, pickEditor, answeredIn, answered, requested, Shown, shown, short, unopened, show, begun}
 use Rattle.model.proofs.Basics.{no-way, and-false, none-some}
 use Rattle.model.proofs.RoomCounts.{trees-total}
-use Rattle.model.proofs.SameRequests.{left}
+use Rattle.model.proofs.SameRequests.{left, linked-some}
 use Rattle.model.proofs.Theorems.{output-20}
 use Rattle.model.proofs.ValidSums.{Sane, aTree}
 use Rattle.model.proofs.WriteKeeps.{valid-ask, sum3}
@@ -27,6 +27,7 @@ use Rattle.edits.specs.declared.code.Code.the-variants.{Done, EmptyComponent, T
 use Rattle.editor.specs.Lent.{Lent, Good, viewed}
 use Rattle.editor.specs.declared.cursor.Cursor.{Cursor}
 use Rattle.editor.specs.Looks.{cursorAt}
+use Rattle.writing.proofs.Theorems.{viewed-valid}
 use Rattle.writing.specs.Requests.{shownAs, placeIn, Requests}
 use Rattle.records.specs.Hex.{hexOf}
 use Rattle.records.specs.Answers.{outcome}
@@ -35,11 +36,6 @@ use Rattle.records.specs.declared.text.Put.{Put}
 use Rattle.lesson.specs.Lesson.{treeKey, rawKey, rootKey, countId, requestLines, orRoot, writeLines, saved}
 use Rattle.lesson.specs.Puts.{PutAt, Puts, Leaves}
 use Rattle.lesson.proofs.PutLaws.{puts, Telling, telling-begin, telling-more, telling-refused, telling-last}
-
--- a store that holds an editor holds a valid one
-pub good-valid : (s : Lent) → Good s → valid sha1 (viewed s) ≡ true
-unfolding sha1
-good-valid s g = g .holds .valid
 
 pub wide : sha1 .width ≡ 20
 unfolding sha1
@@ -79,7 +75,7 @@ cursor-front c p e = ap (λ (x : Cursor). take (x .len) (x .prefix)) e ∙ take-
 module _ (s : Lent) (g : Good s) (h : Held) (q : requested (viewed s) ≡ some h) {code : Code} {n : ℕ} {place : Cursor} {before after : Bytes} (R : Requests s code n place before after)
     (room : 45056 ≤ length before) where
   is-shown : show (length before) (viewed s) ≡ shown (rawTree (h .held))
-  is-shown = output-20 sha1 (viewed s) (length before) h wide (good-valid s g) room q
+  is-shown = output-20 sha1 (viewed s) (length before) h wide (viewed-valid s g) room q
 
   pub request-raw : take n after ≡ rawTree (h .held)
   request-raw = front-shown code n after (rawTree (h .held)) (R .done (λ e. R .refused e .0 g) .1 .is ∙ is-shown)
@@ -123,11 +119,6 @@ few-in c (some w) v =
 pub pending-few : (E : Editor) → valid sha1 E ≡ true → pending E ≤ 64
 unfolding pending
 pending-few E v = few-in (E .cached) (E .writing) v
-
-linked-some : (i p : Bytes) (hs : List Held) → isNil hs ≡ false → isNil (linked i p hs) ≡ false
-unfolding linked
-linked-some i p [] e = e
-linked-some i p (h ∷ hs) e = refl
 
 closed-none : (s : Start) (h : Held) (c : Cache) → pending (closed s h c) ≡ 0
 unfolding closed pending
@@ -203,7 +194,7 @@ saving-begin s d to raw g room h =
       good = g;
       room = room;
       within = h;
-      few = omega (arith, pending-few (viewed s) (good-valid s g));
+      few = omega (arith, pending-few (viewed s) (viewed-valid s g));
       rest = 64;
       bound = omega arith;
       tell = telling-begin d to (writeLines 65 0 (viewed s)) h;

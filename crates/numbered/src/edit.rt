@@ -291,9 +291,9 @@ pub fn cursor_at(
 {
     let o = editor::below::cursor_at(ed, plens, paths, tlens, trees, order, ids, ends, raws, path);
     let code = o.code;
-    let now = o.ed;
+    let opened = o.ed;
     Numbered {
         code: edits::code::number(code),
-        ed: now,
+        ed: opened,
     }
 }

@@ -18,26 +18,6 @@ ghost use Rattle.taken.specs.Taken.{goingOf, stackedOn, keptOn, takenOff
 use slots::Editor;
 use slots::Taken;
 
-// Opens a write from a tree, which is in hand then. `from` is 1 where it is the root's and 2 where it is a cursor's.
-pub fn open_at(r: Editor, slot: usize, from: u64) -> Editor
-    requires { ⌜ (r .hidden ≡ r .free) × Used r slot × (1 ≤ from) × (from ≤ 2) ⌝ }
-    ensures going { λ q. ⌜ ((w : ℕ) (plens paths tlens trees order : List ℕ) → Laid w r plens paths tlens trees → length order ≡ 64 →
-        goingOf w q plens paths tlens trees order ≡ record { cache = del at (pathOf plens paths slot) (cachedOf w r plens paths tlens trees); stack = []; kept = [] }) ⌝ }
-    ensures between { λ q. ⌜ ((order : List ℕ) → length order ≡ 64 → Between q order (slot ∷ [])) ⌝ }
-    ensures same { λ q. ⌜ SameSlots r q × (q .«open» ≡ from) ⌝ }
-{
-    let map = r.hidden;
-    let h = runs::free::give(map, slot);
-    Editor {
-        hidden: h,
-        open: from,
-        aside: 0,
-        stacked: 0,
-        asked: 0,
-        ..r
-    }
-}
-
 // Takes a cached tree off the cache and stacks it.
 pub fn stack(r: Editor, order: &mut [u64], slot: usize) -> Editor
     requires { ⌜ ((hand : List ℕ) × Between r (now order) hand) × Cached r slot ⌝ }

@@ -104,7 +104,7 @@ pub wide : sha1 .width ≡ 20
 unfolding sha1
 wide = refl
 
-size-none : (o : Option Tree) → none ≡ sizeOf o → o ≡ none
+pub size-none : (o : Option Tree) → none ≡ sizeOf o → o ≡ none
 size-none none e = refl
 size-none (some t) e = none-some (record { entries = length t; bytes = nameBytes t }) e
 

@@ -1,22 +1,22 @@
 -- An answer never needs room: the parent has a tree entry of the name, so that the new one is as long. Assumes nothing.
 use mathlib.Core.Path.{_≡_, refl, sym, ap, ap₂, _∙_}
 use mathlib.Core.Bool.{true, _&&_}
-use mathlib.Core.Option.{Option, none, some}
+use mathlib.Core.Option.{none, some}
 use mathlib.Core.List.{[], _∷_}
 use Prim.Native.Nat.{ℕ, _+_, Ordering, Ordering·lt, Ordering·eq, Ordering·gt}
 use lib.Dec.{leb}
 use lib.ListN.{length}
 use Rattle.model.specs.Bytes.{Bytes, cmp, by}
 use Rattle.model.specs.Map.{find, put}
-use Rattle.model.specs.Tree.{TREE, Entry, Tree, asKind, entryOf, withEntry, goodName, wellFormed, nameBytes}
+use Rattle.model.specs.Tree.{TREE, Tree, asKind, entryOf, withEntry, goodName, wellFormed, nameBytes}
 use Rattle.model.specs.Editor.{Held, at, Cache, entryCount, nameCount, pathCount, fits}
 use Rattle.model.specs.Valid.{isTreeEntry}
-use Rattle.model.proofs.Basics.{no-way, none-some, some-inj}
+use Rattle.model.proofs.Basics.{none-some, some-inj}
 use Rattle.model.proofs.ChangeLaws.{Plain}
 use Rattle.model.proofs.SoundTrees.{total, sound-well, name-of}
 use Rattle.model.proofs.RoomCounts.{found-at, trees-total, entries-total, names-total, paths-total}
 use Rattle.model.proofs.RawLaws.{well-entries}
-use Rattle.model.proofs.WriteKeepsTrees.{good-find, set-keeps}
+use Rattle.model.proofs.WriteKeepsTrees.{good-find, is-some, set-keeps}
 
 -- a tree put in the place of one that weighs the same
 total-same : (f : Held → ℕ) (a x : Held) (l : Cache) → f a ≡ f x → find at (a .path) l ≡ some x → total f (put at a l) ≡ total f l
@@ -41,10 +41,6 @@ same-fits p t v c l n e h =
     let k₄ : pathCount d ≡ pathCount c = paths-total d ∙ total-same (λ y. length (y .path)) a x c refl e ∙ sym (paths-total c) in
     ap₂ (λ (i j : ℕ). leb i 64 && leb j 1024 && leb (nameCount d) 16384 && leb (pathCount d) 8192) k₁ k₂
     ∙ ap₂ (λ (i j : ℕ). leb (length c) 64 && leb (entryCount c) 1024 && leb i 16384 && leb j 8192) k₃ k₄ ∙ h
-
-is-some : (o : Option Entry) → isTreeEntry o ≡ true → (x : Entry) × (o ≡ some x)
-is-some none e = no-way (sym e)
-is-some (some x) e = (x, refl)
 
 module _ (w : ℕ) (n : Bytes) (pn : Plain n) (t : Tree) (wt : wellFormed w t ≡ true) (h : isTreeEntry (entryOf n t) ≡ true) where
   -- the name of a tree entry is a good one
