@@ -250,8 +250,14 @@ fn add(
     ensures { λ q. ⌜ Edited width r (now (plens .entry)) (now (paths .entry)) (now (tlens .entry)) (now (trees .entry)) slot (withEntry (entry kind (now (name .entry)) (now (id .entry))) (treeOf width (now (tlens .entry)) (now (trees .entry)) slot)) q (now (tlens .exit)) (now (trees .exit)) ⌝ }
 {
     let nt = r.trees;
-    let other = !names::mode::is_tree(kind);
-    let twin = names::compact::search(runs::runs::run(tlens, trees, nt, slot), width, name, other);
+    let as_tree = names::mode::is_tree(kind);
+    let twin = names::compact::search_twin(
+        runs::runs::run(tlens, trees, nt, slot),
+        width,
+        name,
+        as_tree,
+        place,
+    );
     if twin.found {
         return replace(r, plens, paths, tlens, trees, width, slot, kind, id, name);
     }
