@@ -1,6 +1,6 @@
 -- Laws of looking for a name: the search in compact form finds what the model's map finds, and in raw form what is left of the tree decides. Assumes nothing.
 use Prim.Native.Nat.{ℕ, suc, _+_, _-_, _≤_, _<_, Ordering, Ordering·lt, Ordering·eq, Ordering·gt}
-use mathlib.Core.Path.{_≡_, refl, sym, ap, ap₂, _∙_, subst}
+use mathlib.Core.Path.{_≡_, refl, sym, ap, ap₂, _∙_}
 use mathlib.Core.Logic.{_≢_}
 use mathlib.Core.List.{[], _∷_, _++_}
 use mathlib.Core.Bool.{Bool, true, false, not, _&&_}
@@ -19,9 +19,10 @@ use Rattle.model.proofs.ByteLaws.{same-eq, same-refl}
 use Rattle.model.proofs.ChangeLaws.{Plain, keys-differ}
 use Rattle.model.proofs.MapLaws.{cmp-refl, cmp-eq, find-none, above-less, rising-tail}
 use Rattle.model.proofs.RawLaws.{more-inv, well-entries, read-only}
-use Rattle.model.proofs.SearchLaws.{Right, halving-right}
+use Rattle.model.proofs.SearchLaws.{Right}
 use Rattle.model.proofs.SoundTrees.{name-plain, sound-well}
 use Rattle.names.proofs.FollowLaws.{file-tree}
+use Rattle.names.proofs.TwinLaws.{told-right}
 use Rattle.names.specs.Answers.{asMode, entryRead}
 use Rattle.names.specs.Compact.{unpack, blank, entryAt, spotOf, Tells}
 use Rattle.names.specs.Places.{readEntryAt, entryFound, entriesAt}
@@ -44,7 +45,7 @@ seen-parts k i e p q = ap₂ (λ (m : Mode) (l : Bytes). some (m, l)) p q
 -- what the search of a tree in order gives
 module _ (w : ℕ) (b k : Bytes) {r : Place} (s : Tells w b (searched key k (unpack w b)) r) (up : rising key (unpack w b) ≡ true) where
   right : (t : Bool) → r .found ≡ t → Right key k (unpack w b) (spotOf t (r .index))
-  right t e = subst (Right key k (unpack w b)) (sym (s .spot) ∙ ap (λ (z : Bool). spotOf z (r .index)) e) (halving-right key (length (unpack w b)) k (unpack w b) (omega arith) up)
+  right t e = told-right w b k r s up t e
 
   pub search-miss : r .found ≡ false → find key k (unpack w b) ≡ none
   search-miss e = right false e .0

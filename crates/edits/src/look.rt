@@ -32,7 +32,7 @@ pub fn seen_in(tree: &[u8], name: &[u8], tree_first: bool) -> Seen
     if first.found {
         return entry_seen(tree, first.at, first.index);
     }
-    let second = names::compact::search(tree, 20, name, !tree_first);
+    let second = names::compact::search_twin(tree, 20, name, tree_first, first);
     if second.found {
         return entry_seen(tree, second.at, second.index);
     }

@@ -34,7 +34,7 @@ use Rattle.slots.proofs.Relaid.{others-with, run-in, with-here, well-unpacked, 
 use Rattle.slots.proofs.Calls.{run-length}
 use Rattle.slots.proofs.Counts.{trees-is}
 use Rattle.entries.specs.Entries.{Fresh, Kept, Edited}
-use Rattle.entries.proofs.Laws.{names-append, well-del, missing, inside, found-entry, marked, bytes-without, one-fewer, names-fewer, bytes-over, as-many, as-long, name-is, set-over, bytes-with, place-in, one-more, names-more, well-put, fresh-then}
+use Rattle.entries.proofs.Laws.{names-append, well-del, missing, not-found, inside, found-entry, marked, bytes-without, one-fewer, names-fewer, bytes-over, as-many, as-long, name-is, set-over, bytes-with, place-in, one-more, names-more, well-put, fresh-then}
 
 pub all-kept : (r : Editor) → Kept r r
 all-kept r = record { free = refl; hidden = refl; paths = refl; write = record { «open» = refl; aside = refl; stacked = refl; asked = refl } }
@@ -93,6 +93,13 @@ module _ (w : ℕ) (r : Editor) (plens paths tlens trees : List ℕ) (L : Laid w
         others = record { run = λ j n. refl };
       }
 
+  -- the slot's tree rises, and without a key that it has not it is the tree
+  pub rising-run : rising key (unpack w (runOf tlens trees k)) ≡ true
+  rising-run = ap (λ (z : Bytes). rising key (unpack w z)) (sym B-is) ∙ ris
+
+  pub absent : (kk : Bytes) → find key kk (unpack w (runOf tlens trees k)) ≡ none → Edited w r plens paths tlens trees k (del key kk t) r tlens trees
+  absent kk e = unchanged (del key kk t) (del-absent key kk t (ap (λ (z : Bytes). find key kk (unpack w z)) B-is ∙ e))
+
   -- a search in the slot's run
   module _ (kk : Bytes) (p : Place) (T : Tells w (runOf tlens trees k) (searched key kk (unpack w (runOf tlens trees k))) p) where
     T′ : Tells w B (searched key kk (unpack w B)) p
@@ -100,6 +107,9 @@ module _ (w : ℕ) (r : Editor) (plens paths tlens trees : List ℕ) (L : Laid w
 
     pub not-there : p .found ≡ false → Edited w r plens paths tlens trees k (del key kk t) r tlens trees
     not-there e = unchanged (del key kk t) (del-absent key kk t (missing w B kk run ris p T′ e))
+
+    pub not-yet : find key kk t ≡ none → p .found ≡ false
+    not-yet e = not-found w B kk run ris p T′ e
 
     module _ (e : p .found ≡ true) where
       -- the entry that was found, where it lies

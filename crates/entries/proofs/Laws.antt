@@ -1,5 +1,5 @@
 -- Laws of edits of a tree: the model's maps by places, and the bytes. Assumes nothing.
-use mathlib.Core.Path.{_≡_, refl, sym, ap, ap₂, _∙_, subst}
+use mathlib.Core.Path.{_≡_, refl, sym, ap, ap₂, _∙_}
 use mathlib.Core.Bool.{Bool, true, false, not}
 use mathlib.Core.Option.{none, some}
 use mathlib.Core.List.{List, [], _∷_, _++_, append-assoc}
@@ -16,7 +16,7 @@ use Rattle.model.proofs.RawLaws.{well-entries}
 use Rattle.model.proofs.SwapShared.{well-rising}
 use Rattle.model.proofs.MapLaws.{cmp-refl, cmp-lt, cmp-trans, above-head, above-tail, rising-of-above, rising-del, find-del-same, find-del-other}
 use Rattle.model.specs.Search.{searched}
-use Rattle.model.proofs.SearchLaws.{Right, halving-right}
+use Rattle.model.proofs.SearchLaws.{Right}
 use Rattle.model.proofs.SoundTrees.{sound-well, name-plain, find-key, del-absent}
 use Rattle.model.proofs.RoomCounts.{name-of}
 use Rattle.model.specs.Editor.{at}
@@ -27,6 +27,7 @@ use Rattle.names.specs.declared.compact.Place.{Place}
 use Rattle.names.specs.Splice.{splice}
 use Rattle.runs.proofs.MoveLaws.{splice-is}
 use Rattle.entries.specs.Entries.{Fresh}
+use Rattle.names.proofs.TwinLaws.{told-right}
 use Rattle.names.proofs.CompactLaws.{packed-cons, packed-append, packed-length, split-run, Mark, mark, here}
 
 -- ---- maps in order, by places
@@ -65,7 +66,7 @@ module _ (w : ℕ) (b k : Bytes) (run : Run w b) (ris : rising key (unpack w b) 
   t = unpack w b
 
   right : (f : Bool) → p .found ≡ f → Right key k t (spotOf f (p .index))
-  right f e = subst (Right key k t) (sym (T .spot) ∙ ap (λ (x : Bool). spotOf x (p .index)) e) (halving-right key (length t) k t (omega arith) ris)
+  right f e = told-right w b k p T ris f e
 
   pub missing : p .found ≡ false → find key k t ≡ none
   missing e = right false e .0

@@ -8,13 +8,15 @@ ghost use lib.ListN.{length, getD};
 ghost use Rattle.model.specs.Bytes.{Bytes};
 ghost use Rattle.model.specs.Map.{find, put, del};
 ghost use Rattle.model.specs.Tree.{isTree, asKind, key, goodName, wellFormed, without, withEntry};
+ghost use Rattle.model.specs.Search.{searched};
 ghost use Rattle.model.specs.Editor.{at, fits};
 ghost use Rattle.names.specs.Answers.{asMode, entry};
-ghost use Rattle.names.specs.Compact.{packed};
+ghost use Rattle.names.specs.Compact.{packed, unpack, Tells};
 ghost use Rattle.names.specs.Splice.{splice};
-ghost use Rattle.runs.specs.Runs.{cut, withRun, Sound};
+ghost use Rattle.runs.specs.Runs.{cut, withRun, runOf, Sound};
 ghost use Rattle.slots.specs.View.{viewOf, heldAs, Laid, pathOf, treeOf, Used};
 ghost use Rattle.entries.specs.Entries.{Fresh, Edited};
+use names::compact::Place;
 use names::mode::EntryKind;
 use slots::Editor;
 
@@ -75,6 +77,41 @@ pub fn remove(
     remove_key(one, plens, paths, tlens, trees, width, slot, name, false)
 }
 
+// Puts an entry in, of whose name the tree has none, at the place that the search of its key gave.
+fn insert_at(
+    r: Editor,
+    plens: &[u64],
+    paths: &[u8],
+    tlens: &mut [u64],
+    trees: &mut [u8],
+    width: usize,
+    slot: usize,
+    place: Place,
+    kind: EntryKind,
+    id: &[u8],
+    name: &[u8],
+) -> Editor
+    requires { ⌜ Laid width r (now plens) (now paths) (now tlens) (now trees) × (width ≤ 64) × Used r slot × (length (now id) ≡ width) × (goodName (now name) ≡ true)
+        × Fresh (now name) (treeOf width (now tlens) (now trees) slot)
+        × (fits (put at (heldAs (pathOf (now plens) (now paths) slot) (put key (entry kind (now name) (now id)) (treeOf width (now tlens) (now trees) slot))) (viewOf width r (now plens) (now paths) (now tlens) (now trees))) ≡ true)
+        × Tells width (runOf (now tlens) (now trees) slot) (searched key (asKind (isTree (asMode kind)) (now name)) (unpack width (runOf (now tlens) (now trees) slot))) place ⌝ }
+    ensures { λ q. ⌜ Edited width r (now (plens .entry)) (now (paths .entry)) (now (tlens .entry)) (now (trees .entry)) slot (put key (entry kind (now (name .entry)) (now (id .entry))) (treeOf width (now (tlens .entry)) (now (trees .entry)) slot)) q (now (tlens .exit)) (now (trees .exit)) ⌝ }
+{
+    let nt = r.trees;
+    let mut buf = [0u8; 321];
+    let byte = names::compact::kind_byte(kind);
+    let n = names::compact::put_entry(&mut buf, byte, id, name);
+    let t = runs::runs::insert(tlens, trees, nt, slot, place.at, &buf[..n]);
+    let more = r.entries + 1;
+    let bytes = r.names + name.len();
+    Editor {
+        trees: t,
+        entries: more,
+        names: bytes,
+        ..r
+    }
+}
+
 // Puts an entry in, of whose name the tree has none.
 pub fn insert_key(
     r: Editor,
@@ -101,19 +138,19 @@ pub fn insert_key(
         name,
         in_tree_order,
     );
-    let a = place.at;
-    let mut buf = [0u8; 321];
-    let byte = names::compact::kind_byte(kind);
-    let n = names::compact::put_entry(&mut buf, byte, id, name);
-    let t = runs::runs::insert(tlens, trees, nt, slot, a, &buf[..n]);
-    let more = r.entries + 1;
-    let bytes = r.names + name.len();
-    Editor {
-        trees: t,
-        entries: more,
-        names: bytes,
-        ..r
-    }
+    insert_at(
+        r,
+        plens,
+        paths,
+        tlens,
+        trees,
+        width,
+        slot,
+        place,
+        kind,
+        id,
+        name,
+    )
 }
 
 // Puts an entry in after the last one.
@@ -192,6 +229,53 @@ fn replace(
     insert_key(one, plens, paths, tlens, trees, width, slot, kind, id, name)
 }
 
+// Puts an entry in, of whose key the tree has none, at the place that the search of its key gave, unless the one of its name and of another kind of key goes first.
+fn add(
+    r: Editor,
+    plens: &[u64],
+    paths: &[u8],
+    tlens: &mut [u64],
+    trees: &mut [u8],
+    width: usize,
+    slot: usize,
+    place: Place,
+    kind: EntryKind,
+    id: &[u8],
+    name: &[u8],
+) -> Editor
+    requires { ⌜ Laid width r (now plens) (now paths) (now tlens) (now trees) × (width ≤ 64) × Used r slot × (length (now id) ≡ width) × (goodName (now name) ≡ true)
+        × (find key (asKind (isTree (asMode kind)) (now name)) (treeOf width (now tlens) (now trees) slot) ≡ none)
+        × (fits (put at (heldAs (pathOf (now plens) (now paths) slot) (withEntry (entry kind (now name) (now id)) (treeOf width (now tlens) (now trees) slot))) (viewOf width r (now plens) (now paths) (now tlens) (now trees))) ≡ true)
+        × Tells width (runOf (now tlens) (now trees) slot) (searched key (asKind (isTree (asMode kind)) (now name)) (unpack width (runOf (now tlens) (now trees) slot))) place ⌝ }
+    ensures { λ q. ⌜ Edited width r (now (plens .entry)) (now (paths .entry)) (now (tlens .entry)) (now (trees .entry)) slot (withEntry (entry kind (now (name .entry)) (now (id .entry))) (treeOf width (now (tlens .entry)) (now (trees .entry)) slot)) q (now (tlens .exit)) (now (trees .exit)) ⌝ }
+{
+    let nt = r.trees;
+    let as_tree = names::mode::is_tree(kind);
+    let twin = names::compact::search_twin(
+        runs::runs::run(tlens, trees, nt, slot),
+        width,
+        name,
+        as_tree,
+        place,
+    );
+    if twin.found {
+        return replace(r, plens, paths, tlens, trees, width, slot, kind, id, name);
+    }
+    insert_at(
+        r,
+        plens,
+        paths,
+        tlens,
+        trees,
+        width,
+        slot,
+        place,
+        kind,
+        id,
+        name,
+    )
+}
+
 // Sets an entry: in place of the one of its name, in order, or as a new one.
 pub fn set(
     r: Editor,
@@ -221,5 +305,17 @@ pub fn set(
         rewrite(tlens, trees, nt, slot, place.at, kind, id, name);
         return r;
     }
-    replace(r, plens, paths, tlens, trees, width, slot, kind, id, name)
+    add(
+        r,
+        plens,
+        paths,
+        tlens,
+        trees,
+        width,
+        slot,
+        place,
+        kind,
+        id,
+        name,
+    )
 }

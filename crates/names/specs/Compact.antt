@@ -3,13 +3,14 @@ use mathlib.Core.Path.{_≡_}
 use Prim.Native.Nat.{ℕ, zero, suc, _+_, _*_, _≤_}
 use mathlib.Core.Bool.{Bool, true, false}
 use mathlib.Core.List.{[], _∷_, _++_}
-use mathlib.Core.Option.{some}
+use mathlib.Core.Option.{none, some}
 use lib.ListN.{length, take, drop, getD}
-use Rattle.model.specs.Bytes.{Bytes}
-use Rattle.model.specs.Tree.{Mode, TREE, BLOB, EXEC, LINK, COMMIT, Entry, Tree, goodEntries, nameBytes}
+use Rattle.model.specs.Bytes.{Bytes, same}
+use Rattle.model.specs.Map.{find}
+use Rattle.model.specs.Tree.{Mode, TREE, BLOB, EXEC, LINK, COMMIT, Entry, Tree, key, goodEntries, nameBytes}
 use Rattle.model.specs.Order.{All}
 use Rattle.model.specs.Raw.{readTree}
-use Rattle.model.specs.Search.{Spot, hit, miss, Searched}
+use Rattle.model.specs.Search.{Spot, hit, miss, Searched, searched}
 use Rattle.names.specs.declared.compact.Place.{Place}
 
 -- the kind byte of a mode, and the mode of a kind byte
@@ -75,6 +76,16 @@ pub record Tells (w : ℕ) (b : Bytes) (s : Searched) (r : Place) : Type 0 where
   pub within : r .index ≤ length (unpack w b)
   pub start : r .at ≡ offset w b (r .index)
   pub count : r .compared ≡ s .count
+
+-- a place that was found is where the search of the key finds it; and where none was, the key is not there
+pub record Finds (w : ℕ) (b k : Bytes) (r : Place) : Type 0 where
+  pub there : r .found ≡ true → Tells w b (searched key k (unpack w b)) r
+  pub nowhere : r .found ≡ false → find key k (unpack w b) ≡ none
+
+-- the first of these entries has a name that begins with n
+abbrev pub begun : Bytes → Tree → Bool
+begun n [] = false
+begun n (e ∷ es) = same (take (length n) (e .name)) n
 
 -- the bytes are the raw form of a well-formed tree, whose compact form takes n bytes
 pub record Takes (w : ℕ) (raw : Bytes) (n : ℕ) : Type 0 where

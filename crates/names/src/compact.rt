@@ -1,14 +1,16 @@
 // A tree in compact form: entries end to end in Git's order, each a kind, the length of its name, its id and its name.
 ghost use mathlib.Core.Path.{_≡_};
+ghost use mathlib.Core.Bool.{true, false, not};
 ghost use Prim.Native.Nat.{ℕ, _+_, _≤_, _<_};
-ghost use lib.ListN.{length, take};
+ghost use lib.ListN.{length, take, drop};
 ghost use mathlib.Core.List.{_∷_, _++_};
 ghost use Rattle.model.specs.Bytes.{cmp};
+ghost use Rattle.model.specs.Map.{rising};
 ghost use Rattle.model.specs.Raw.{rawEntry, rawTree};
 ghost use Rattle.model.specs.Tree.{asKind, key};
 ghost use Rattle.model.specs.Search.{searched};
 ghost use Rattle.names.specs.Answers.{asMode, asOrdering};
-ghost use Rattle.names.specs.Compact.{kindOf, modeAt, unpack, Run, offset, entryAt, Tells, Takes, PackedAs};
+ghost use Rattle.names.specs.Compact.{kindOf, modeAt, unpack, Run, offset, entryAt, Tells, Finds, begun, Takes, PackedAs};
 ghost use Rattle.names.specs.Splice.{splice};
 use crate::mode::EntryKind;
 use crate::order::Order;
@@ -136,6 +138,32 @@ pub fn search(tree: &[u8], width: usize, name: &[u8], as_tree: bool) -> Place
         at: at,
         compared: c,
     }
+}
+
+// Whether the entry i, which starts at `at` if it is there, has a name that begins with this one.
+fn begins_at(tree: &[u8], width: usize, at: usize, i: usize, name: &[u8]) -> bool
+    requires { ⌜ Run width (now tree) × (at ≡ offset width (now tree) i) × (i ≤ length (unpack width (now tree))) ⌝ }
+    ensures { λ r. ⌜ r ≡ begun (now (name .entry)) (drop i (unpack width (now (tree .entry)))) ⌝ }
+{
+    if tree.len() <= at {
+        return false;
+    }
+    let other = name_at(tree, width, at, i);
+    crate::order::same_bytes(crate::part::front(other, name.len()), name)
+}
+
+// Searches a name in the other order, where its search gave the place of an entry that is not there. A tree stands after the place of the file of its name, and what is between begins with the name.
+pub fn search_twin(tree: &[u8], width: usize, name: &[u8], as_tree: bool, place: Place) -> Place
+    requires { ⌜ Run width (now tree) × (width ≤ 64) × (rising key (unpack width (now tree)) ≡ true)
+        × Tells width (now tree) (searched key (asKind «as_tree» (now name)) (unpack width (now tree))) place × (place .found ≡ false) ⌝ }
+    ensures { λ r. ⌜ Finds width (now (tree .entry)) (asKind (not «as_tree») (now (name .entry))) r ⌝ }
+{
+    if !as_tree {
+        if !begins_at(tree, width, place.at, place.index, name) {
+            return place;
+        }
+    }
+    search(tree, width, name, !as_tree)
 }
 
 // Writes an entry from `at` on, and gives the place after it.

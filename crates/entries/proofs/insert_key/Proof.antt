@@ -1,19 +1,14 @@
 -- `entries::insert_key` meets its contract: the search gives the place where the model puts the entry. Assumes nothing.
-use mathlib.Core.Path.{_≡_, refl, sym, ap, _∙_, subst}
+use mathlib.Core.Path.{sym, subst}
 use mathlib.Core.Bool.{Bool}
-use mathlib.Core.List.{List, _∷_, _++_}
-use Prim.Native.Nat.{ℕ, _+_, _≤_}
-use native.Mathlib.Omega.{arith}
-use lib.ListN.{length, take}
-use lib.Seq.{length-take-le}
+use mathlib.Core.List.{List}
+use Prim.Native.Nat.{ℕ}
 use Rattle.model.specs.Search.{searched}
 use Rattle.model.specs.Tree.{key, asKind, isTree}
-use Rattle.names.specs.Answers.{asMode, entry}
-use Rattle.names.specs.Compact.{packed, Run, Tells, unpack}
-use Rattle.names.proofs.CompactLaws.{name-short}
+use Rattle.names.specs.Answers.{asMode}
+use Rattle.names.specs.Compact.{Run, Tells, unpack}
 use Rattle.runs.specs.Runs.{runOf}
 use Rattle.slots.proofs.Calls.{searched-run}
-use Rattle.entries.proofs.Calls.{place-fits, insert-room, counts-fit, inserting}
 use borrow.Author.Needs.{needs}
 use Rattle.entries.proofs.insert_key.Statement.{statement}
 use Rattle.entries.proofs.insert_key.Tie as tie
@@ -24,17 +19,6 @@ told n =
     let a = n .before .before .before .before .before .before .before .before .before .before .before .args in
     subst (λ (b : Bool). Tells (a .width) (runOf (a .tlens .now) (a .trees .now) (a .slot)) (searched key (asKind b (a .name .now)) (unpack (a .width) (runOf (a .tlens .now) (a .trees .now) (a .slot)))) (n .search .result)) (n .before .before .before .before .is-tree .ensures)
     (subst (λ (z : List ℕ). Tells (a .width) z (searched key (asKind (n .before .before .before .before .is-tree .result) (a .name .now)) (unpack (a .width) z)) (n .search .result)) (n .before .run .ensures) (n .search .ensures))
-
--- the entry stands in the buffer
-whole : (e : tie.After-put-entry) → e .put-entry .result ≤ length (e .put-entry .last .0)
-whole e =
-    let s = e .before .before .before .before .before .before .before .before .before .before .before .before .before .before in
-    omega (arith, e .put-entry .ensures .0, e .put-entry .kept .0, s .pre .3, s .pre .1, name-short (s .args .name .now) (s .pre .4))
-
-written : (e : tie.After-put-entry) → take (e .put-entry .result) (e .put-entry .last .0) ≡ packed (entry (e .before .before .before .before .before .before .before .before .before .before .before .before .before .before .args .kind) (e .before .before .before .before .before .before .before .before .before .before .before .before .before .before .args .name .now) (e .before .before .before .before .before .before .before .before .before .before .before .before .before .before .args .id .now))
-written e =
-    let a = e .before .before .before .before .before .before .before .before .before .before .before .before .before .before .args in
-    e .put-entry .ensures .1 ∙ ap (λ (x : ℕ). x ∷ length (a .name .now) ∷ (a .id .now ++ a .name .now)) (e .before .before .kind-byte .ensures)
 
 is-tree-requires : tie.Need-is-tree-requires
 is-tree-requires c κs = search needs
@@ -48,49 +32,11 @@ search-requires c κs =
     let a = s .args in
     (subst (Run (a .width)) (sym (c .run .ensures)) (searched-run (a .width) (a .r) (a .plens .now) (a .paths .now) (a .tlens .now) (a .trees .now) (s .pre .0) (a .slot) (s .pre .2 .low)), s .pre .1)
 
-kind-byte-requires : tie.Need-kind-byte-requires
-kind-byte-requires c κs = search needs
-
-slice-aggregate-put-entry : tie.Need-slice-aggregate-put-entry
-slice-aggregate-put-entry c = search needs
-
-put-entry-requires : tie.Need-put-entry-requires
-put-entry-requires c κs =
-    let s = c .before .before .before .before .before .before .before .before .before .before .before .before .before in
-    (refl, omega (arith, s .pre .3, s .pre .1), name-short (s .args .name .now) (s .pre .4))
-
-array-share-prefix-buf : tie.Need-array-share-prefix-buf
-array-share-prefix-buf c = whole (c .before .before .before)
-
-slice-aggregate-insert : tie.Need-slice-aggregate-insert
-slice-aggregate-insert c =
-    let e = c .before .before .before .before in
-    sym (length-take-le (e .put-entry .result) (e .put-entry .last .0) (whole e))
-
-insert-requires : tie.Need-insert-requires
-insert-requires c κs =
-    let e = c .before .before .before .before in
-    let n = e .before .before .before in
+insert-at-requires : tie.Need-insert-at-requires
+insert-at-requires c κs =
+    let n = c .before .before in
     let s = n .before .before .before .before .before .before .before .before .before .before .before in
-    let a = s .args in
-    let l : length (take (e .put-entry .result) (e .put-entry .last .0)) ≡ e .put-entry .result = length-take-le (e .put-entry .result) (e .put-entry .last .0) (whole e) in
-    (s .pre .0 .trees-sound, omega (arith, s .pre .0 .tlens-64, s .pre .2 .low), place-fits (a .width) (a .r) (a .plens .now) (a .paths .now) (a .tlens .now) (a .trees .now) (s .pre .0) (a .slot) (s .pre .2) (asMode (a .kind)) (a .name .now) (a .id .now) (s .pre .3) (s .pre .4) (s .pre .5) (isTree (asMode (a .kind))) refl (n .search .result) (told n), omega (arith, e .put-entry .ensures .0, insert-room (a .width) (a .r) (a .plens .now) (a .paths .now) (a .tlens .now) (a .trees .now) (s .pre .0) (a .slot) (s .pre .2) (asMode (a .kind)) (a .name .now) (a .id .now) (s .pre .3) (s .pre .4) (s .pre .5) (isTree (asMode (a .kind))) refl (n .search .result) (told n) (s .pre .6), s .pre .3))
-
-add-more : tie.Need-add-more
-add-more c =
-    let e = c .before .before .before .before .before .before .before .before .before .before in
-    let n = e .before .before .before in
-    let s = n .before .before .before .before .before .before .before .before .before .before .before in
-    let a = s .args in
-    omega (arith, counts-fit (a .width) (a .r) (a .plens .now) (a .paths .now) (a .tlens .now) (a .trees .now) (s .pre .0) (a .slot) (s .pre .2) (asMode (a .kind)) (a .name .now) (a .id .now) (s .pre .3) (s .pre .4) (s .pre .5) (isTree (asMode (a .kind))) refl (n .search .result) (told n) (s .pre .6) .0)
-
-add-bytes : tie.Need-add-bytes
-add-bytes c =
-    let e = c .before .before .before .before .before .before .before .before .before .before .before in
-    let n = e .before .before .before in
-    let s = n .before .before .before .before .before .before .before .before .before .before .before in
-    let a = s .args in
-    omega (arith, counts-fit (a .width) (a .r) (a .plens .now) (a .paths .now) (a .tlens .now) (a .trees .now) (s .pre .0) (a .slot) (s .pre .2) (asMode (a .kind)) (a .name .now) (a .id .now) (s .pre .3) (s .pre .4) (s .pre .5) (isTree (asMode (a .kind))) refl (n .search .result) (told n) (s .pre .6) .1)
+    (s .pre .0, s .pre .1, s .pre .2, s .pre .3, s .pre .4, s .pre .5, s .pre .6, told n)
 
 same-length : tie.Need-same-length
 same-length c = search needs
@@ -99,14 +45,7 @@ same-length-2 : tie.Need-same-length-2
 same-length-2 c = search needs
 
 returns : tie.Need-returns
-returns c =
-    let e = c .before .before .before .before .before .before .before .before .before .before .before in
-    let n = e .before .before .before in
-    let s = n .before .before .before .before .before .before .before .before .before .before .before in
-    let a = s .args in
-    let t = c .before .before .before .before .before .before .insert in
-    inserting (a .width) (a .r) (a .plens .now) (a .paths .now) (a .tlens .now) (a .trees .now) (s .pre .0) (a .slot) (s .pre .2) (asMode (a .kind)) (a .name .now) (a .id .now) (s .pre .3) (s .pre .4) (s .pre .5) (isTree (asMode (a .kind))) refl (n .search .result) (told n) (take (e .put-entry .result) (e .put-entry .last .0)) (written e)
-    (record { free = a .r .free; hidden = a .r .hidden; paths = a .r .paths; trees = t .result; entries = a .r .entries + 1; names = a .r .names + length (a .name .now); «open» = a .r .«open»; aside = a .r .aside; stacked = a .r .stacked; asked = a .r .asked }) (t .last .0) (t .last .1 .0) (t .ensures .0) (t .kept .0) (t .kept .1 .0) (t .ensures .1 .0) (record { free = refl; hidden = refl; paths = refl; write = record { «open» = refl; aside = refl; stacked = refl; asked = refl } }) refl refl
+returns c = search needs
 
 pub insert-key-spec : {M : Type 1} → statement M
 insert-key-spec =
@@ -115,14 +54,7 @@ insert-key-spec =
     is-tree-requires
     run-requires
     search-requires
-    kind-byte-requires
-    slice-aggregate-put-entry
-    put-entry-requires
-    array-share-prefix-buf
-    slice-aggregate-insert
-    insert-requires
-    add-more
-    add-bytes
+    insert-at-requires
     same-length
     same-length-2
     returns)

@@ -1,4 +1,4 @@
--- `entries::set` meets its contract: where an entry of the key is there, the new one stands in its place; else the twin goes and it is put in. Assumes nothing.
+-- `entries::set` meets its contract: where an entry of the key is there, the new one stands in its place; else it is put in at the place that the search gave. Assumes nothing.
 use mathlib.Core.Path.{sym, subst}
 use mathlib.Core.Bool.{Bool}
 use mathlib.Core.List.{List}
@@ -56,12 +56,12 @@ returns c =
     let w = c .before .before .rewrite in
     rewriting (a .width) (a .r) (a .plens .now) (a .paths .now) (a .tlens .now) (a .trees .now) (s .pre .0) (a .slot) (s .pre .2) (asMode (a .kind)) (a .name .now) (a .id .now) (s .pre .3) (s .pre .4) (n .search .result) (told n) (c .before .before .before .before .before .if1 .taken) (w .last .1 .0) (w .ensures) (w .kept .1 .0)
 
-replace-requires : tie.Need-replace-requires
-replace-requires c κs =
+add-requires : tie.Need-add-requires
+add-requires c κs =
     let n = c .before .before .before in
     let s = n .before .before .before .before .before .before .before .before .before .before .before in
     let a = s .args in
-    (s .pre .0, s .pre .1, s .pre .2, s .pre .3, s .pre .4, none-there (a .width) (a .r) (a .plens .now) (a .paths .now) (a .tlens .now) (a .trees .now) (s .pre .0) (a .slot) (s .pre .2) (asMode (a .kind)) (a .name .now) (a .id .now) (s .pre .3) (s .pre .4) (n .search .result) (told n) (c .before .before .if1 .left), s .pre .5)
+    (s .pre .0, s .pre .1, s .pre .2, s .pre .3, s .pre .4, none-there (a .width) (a .r) (a .plens .now) (a .paths .now) (a .tlens .now) (a .trees .now) (s .pre .0) (a .slot) (s .pre .2) (asMode (a .kind)) (a .name .now) (a .id .now) (s .pre .3) (s .pre .4) (n .search .result) (told n) (c .before .before .if1 .left), s .pre .5, told n)
 
 same-length-3 : tie.Need-same-length-3
 same-length-3 c = search needs
@@ -83,7 +83,7 @@ set-spec =
     same-length
     same-length-2
     returns
-    replace-requires
+    add-requires
     same-length-3
     same-length-4
     returns-2)

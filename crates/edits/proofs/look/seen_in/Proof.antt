@@ -26,14 +26,14 @@ returns c =
     let h = search-hit 20 (s .args .tree .now) (asKind (s .args .tree-first) (s .args .name .now)) (b .before .search .ensures) (s .pre .1) (b .if1 .taken) in
     c .entry-seen .ensures ∙ ap partsOf (sym (by-first (s .args .name .now) (unpack 20 (s .args .tree .now)) (s .args .tree-first) _ (h .1)))
 
-search-requires-2 : tie.Need-search-requires-2
-search-requires-2 c κs = search needs
+search-twin-requires : tie.Need-search-twin-requires
+search-twin-requires c κs = search needs
 
 entry-seen-requires-2 : tie.Need-entry-seen-requires-2
 entry-seen-requires-2 c κs =
     let s = c .before .before .before .before .before .before in
-    let h = search-hit 20 (s .args .tree .now) (asKind (not (s .args .tree-first)) (s .args .name .now)) (c .before .search2 .ensures) (s .pre .1) (c .if2 .taken) in
-    (s .pre .0, c .before .search2 .ensures .start, h .0)
+    let h = search-hit 20 (s .args .tree .now) (asKind (not (s .args .tree-first)) (s .args .name .now)) (c .before .search-twin .ensures .there (c .if2 .taken)) (s .pre .1) (c .if2 .taken) in
+    (s .pre .0, c .before .search-twin .ensures .there (c .if2 .taken) .start, h .0)
 
 returns-2 : tie.Need-returns-2
 returns-2 c =
@@ -41,7 +41,7 @@ returns-2 c =
     let e = b .before .before in
     let s = e .before .before .before .before in
     let m = search-miss 20 (s .args .tree .now) (asKind (s .args .tree-first) (s .args .name .now)) (e .before .search .ensures) (s .pre .1) (e .if1 .left) in
-    let h = search-hit 20 (s .args .tree .now) (asKind (not (s .args .tree-first)) (s .args .name .now)) (b .before .search2 .ensures) (s .pre .1) (b .if2 .taken) in
+    let h = search-hit 20 (s .args .tree .now) (asKind (not (s .args .tree-first)) (s .args .name .now)) (b .before .search-twin .ensures .there (b .if2 .taken)) (s .pre .1) (b .if2 .taken) in
     c .entry-seen2 .ensures ∙ ap partsOf (sym (by-second (s .args .name .now) (unpack 20 (s .args .tree .now)) (s .args .tree-first) _ m (h .1)))
 
 returns-3 : tie.Need-returns-3
@@ -49,8 +49,7 @@ returns-3 c =
     let e = c .before .before in
     let s = e .before .before .before .before in
     let m = search-miss 20 (s .args .tree .now) (asKind (s .args .tree-first) (s .args .name .now)) (e .before .search .ensures) (s .pre .1) (e .if1 .left) in
-    let h = search-miss 20 (s .args .tree .now) (asKind (not (s .args .tree-first)) (s .args .name .now)) (c .before .search2 .ensures) (s .pre .1) (c .if2 .left) in
-    sym (ap partsOf (by-second (s .args .name .now) (unpack 20 (s .args .tree .now)) (s .args .tree-first) none m h))
+    sym (ap partsOf (by-second (s .args .name .now) (unpack 20 (s .args .tree .now)) (s .args .tree-first) none m (c .before .search-twin .ensures .nowhere (c .if2 .left))))
 
 pub seen-in-spec : {M : Type 1} → statement M
 seen-in-spec =
@@ -59,7 +58,7 @@ seen-in-spec =
     search-requires
     entry-seen-requires
     returns
-    search-requires-2
+    search-twin-requires
     entry-seen-requires-2
     returns-2
     returns-3)
