@@ -1,4 +1,4 @@
--- Where the file of a name is not there, the tree of that name is not either unless the next entry begins with the name: the tree's key is the least above the file's that does not go on past the name. Assumes nothing.
+-- Every key from a file's to that of the tree of its name begins with the name; so where the entry at the place of a missing file does not, the tree is not there. Assumes nothing.
 use Prim.Native.Nat.{ℕ, _≤_, _<_, compare, Ordering, Ordering·lt, Ordering·eq, Ordering·gt}
 use mathlib.Core.Path.{_≡_, refl, sym, ap, ap₂, _∙_, subst}
 use mathlib.Core.Bool.{Bool, true, false, not, true≢false}
@@ -18,7 +18,7 @@ use Rattle.names.specs.Compact.{unpack, blank, spotOf, Tells, begun, Fin
 use Rattle.names.specs.declared.compact.Place.{Place}
 use Rattle.names.proofs.FollowLaws.{file-tree}
 
--- a string that does not go on as n does, and is above it, is above all that begin with n
+-- a name that does not begin with n, and whose key is above n, has one above all that begin with n
 beyond : (n l s r : Bytes) → length s ≤ 1 → (take (length n) l ≡ n → ⊥) → cmp n (l ++ s) ≡ Ordering·lt → cmp (n ++ r) (l ++ s) ≡ Ordering·lt
 beyond [] [] s r h ne e = absurd (ne refl)
 beyond [] (d ∷ l) s r h ne e = absurd (ne refl)

@@ -152,7 +152,7 @@ fn begins_at(tree: &[u8], width: usize, at: usize, i: usize, name: &[u8]) -> boo
     crate::order::same_bytes(crate::part::front(other, name.len()), name)
 }
 
-// Searches a name in the other order, where its search gave the place of an entry that is not there. A tree stands after the place of the file of its name, and what is between begins with the name.
+// Searches a name in the other order, after the search that did not find it. Between a file's place and the tree of its name stand only names that begin with it, so the entry at the place often tells.
 pub fn search_twin(tree: &[u8], width: usize, name: &[u8], as_tree: bool, place: Place) -> Place
     requires { ⌜ Run width (now tree) × (width ≤ 64) × (rising key (unpack width (now tree)) ≡ true)
         × Tells width (now tree) (searched key (asKind «as_tree» (now name)) (unpack width (now tree))) place × (place .found ≡ false) ⌝ }
