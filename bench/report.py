@@ -7,7 +7,7 @@ from pathlib import Path
 
 LENT, RECORD = 48640, 80
 # bounds that are missed; docs/FIGURES.md says why
-KNOWN = {"an upsert beside 30 files, instructions", "the write of 61 trees, instructions over the original's"}
+KNOWN = {"the write of 61 trees, instructions over the original's"}
 
 
 def table(heads, rows):
