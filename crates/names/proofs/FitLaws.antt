@@ -17,7 +17,7 @@ use Rattle.model.specs.Raw.{more, ifGood}
 use Rattle.model.proofs.Basics.{none-some, some-inj, and-left, and-right, and-false}
 use Rattle.model.proofs.ByteLaws.{same-eq}
 use Rattle.names.specs.Answers.{asOrdering}
-use Rattle.names.specs.Check.{TreeSize, sizeOf, isLess, namesOf, treeAmong, TwinIs, wellAfter, plain, besides, wellPast, FitsIs}
+use Rattle.names.specs.Check.{TreeSize, sizeOf, isLess, namesOf, treeAmong, TwinIs, wellAfter, plain, besides, wellPast, FitsIs, checkPast, Checking}
 use Rattle.names.specs.Compact.{Wide}
 use Rattle.names.specs.Standings.{StandsIn, StandsAs}
 use Rattle.names.specs.declared.neighbour.Standing.{Standing}
@@ -98,6 +98,10 @@ first-above [] tree h = absurd (let z : _≡_ {A = ℕ} 0 1 = cc in omega arith)
 first-above (x ∷ n) true h = refl
 first-above (x ∷ n) false h = refl
 
+first-besides : (n : Bytes) (t : Bool) → goodName n ≡ true → besides [] false n t ≡ true
+unfolding besides
+first-besides n t h = rw (h, first-above n false h, first-above n t h)
+
 pub well-is : (w : ℕ) (t : Tree) → Wide w t → wellFormed w t ≡ wellAfter [] t
 unfolding wellFormed
 well-is w [] h = well-from w [] [] h
@@ -157,11 +161,6 @@ module _ {p : Bytes} {pt : Bool} {n : Bytes} {t : Bool} {later : Option Tree} {o
     pub fit-alone : b ≡ false → FitsIs p pt n t later true
     fit-alone h = record { may = λ q. inside .0; is = λ es q w. rw (inside .0, there es q w, h) }
 
--- What the check finds, where n entries with b bytes of names have passed, and of the last of them only the twin is to be searched for.
-unfoldable pub checkPast : ℕ → ℕ → Bytes → Bool → Option Tree → Option TreeSize
-checkPast n b p pt none = none
-checkPast n b p pt (some es) = cond (wellPast p pt es) (some (record { entries = n + length es; bytes = b + nameBytes es })) none
-
 past-cons : (n b : ℕ) (p : Bytes) (pt : Bool) (e : Entry) (es : Tree) →
     checkPast n b p pt (some (e ∷ es)) ≡ cond (besides p pt (e .name) (isTree (e .mode)) && not (among p (namesOf es))) (checkPast (n + 1) (b + length (e .name)) (e .name) (isTree (e .mode)) (some es)) none
 unfolding checkPast wellPast wellAfter besides
@@ -218,6 +217,17 @@ none-empty (e ∷ es) h = go (same [] (e .name)) refl (none-empty es (h .2))
     go true q ih = absurd (false≢true (ap goodName (same-eq [] (e .name) q) ∙ h .0))
     go false q ih = ih
 
+-- any good name may stand first
+pub fit-first : {p : Bytes} {pt : Bool} {n : Bytes} {t : Bool} {later : Option Tree} → p ≡ [] → pt ≡ false → goodName n ≡ true → FitsIs p pt n t later true
+fit-first {p} {pt} {n} {t} e f g =
+    let x : besides p pt n t ≡ true = ap (λ (l : Bytes). besides l pt n t) e ∙ ap (λ (b : Bool). besides [] b n t) f ∙ first-besides n t g in
+    record {
+      may = λ q. x;
+      is = λ es q w.
+          let a : among p (namesOf es) ≡ false = ap (λ (l : Bytes). among l (namesOf es)) e ∙ none-empty es (proper (asKind t n) es (past-after n t es w)) in
+          rw (x, a);
+    }
+
 past-nothing : (es : Tree) → wellAfter [] es ≡ wellPast [] false es
 unfolding wellPast
 past-nothing es = go (wellAfter [] es) refl
@@ -225,14 +235,6 @@ past-nothing es = go (wellAfter [] es) refl
     go : (t : Bool) → wellAfter [] es ≡ t → wellAfter [] es ≡ (not (among [] (namesOf es)) && wellAfter [] es)
     go true h = rw (none-empty es (proper [] es h))
     go false h = h ∙ sym (rw h (and-false (not (among [] (namesOf es)))))
-
--- At a place of a check: `whole` is what it finds in the end, `here` the entries from there on.
-pub record Checking (whole : Option TreeSize) (len : ℕ) (here : Option Tree) (at n b : ℕ) (prev : Bytes) (tree : Bool) : Type 0 where
-  pub within : at ≤ len
-  pub few : n ≤ at
-  pub short : b ≤ at
-  pub clear : plain prev ≡ true
-  pub rest : whole ≡ checkPast n b prev tree here
 
 check-counts : (w : ℕ) (t : Option Tree) → ((ts : Tree) → t ≡ some ts → Wide w ts) → sizeOf (ifGood w t) ≡ checkPast 0 0 [] false t
 unfolding checkPast

@@ -15,7 +15,7 @@ use Rattle.model.proofs.ByteLaws.{compare-same, has-here, has-past}
 use Rattle.model.proofs.RawLaws.{name-no-nul}
 use Rattle.model.proofs.SoundTrees.{name-plain}
 use Rattle.names.proofs.OrderLaws.{in-name, after-name, Comparing, ends-left, ends-right, ends-both, byte-less, byte-more}
-use Rattle.names.specs.Check.{Shorter, Shares, plain, besides}
+use Rattle.names.specs.Check.{Shorter, Shares, Lower, plain, besides}
 use Rattle.names.specs.Standings.{StandsIn}
 use Rattle.names.specs.declared.neighbour.Standing.the-variants.{Apart, Within, Wrong}
 
@@ -97,13 +97,22 @@ has-rest c i a h = ap (has c) (sym (take-append-drop i a)) ∙ has-append c (tak
 has-at : (c i : ℕ) (a : Bytes) → has c a ≡ false → i < length a → getD a i 0 ≡ c → ⊥
 has-at c i a h g e = true≢false (sym (has-here c (getD a i 0) (drop (suc i) a) e) ∙ ap (has c) (sym (drop-cons a i 0 g)) ∙ sym (has-rest c i a (has-take c i a h)) ∙ h)
 
-no-slash : (n : Bytes) → plain n ≡ true → has 47 n ≡ false
+pub no-slash : (n : Bytes) → plain n ≡ true → has 47 n ≡ false
 unfolding plain
 no-slash n h = not-true (has 47 n) (and-left (not (has 47 n)) (not (has 0 n)) h)
 
-no-nul : (n : Bytes) → plain n ≡ true → has 0 n ≡ false
+pub no-nul : (n : Bytes) → plain n ≡ true → has 0 n ≡ false
 unfolding plain
 no-nul n h = not-true (has 0 n) (and-right (not (has 47 n)) (not (has 0 n)) h)
+
+-- where the first of two parts is plain the second decides, and it is where the whole is
+pub plain-append : (a b : Bytes) → plain a ≡ true → plain (a ++ b) ≡ plain b
+unfolding plain
+plain-append a b h = rw (has-append 47 a b (no-slash a h), has-append 0 a b (no-nul a h))
+
+pub plain-front : (a b : Bytes) → plain (a ++ b) ≡ true → plain a ≡ true
+unfolding plain
+plain-front a b h = rw (has-front 47 a b (no-slash (a ++ b) h), has-front 0 a b (no-nul (a ++ b) h))
 
 -- a name of which nothing was seen yet, and one byte more
 pub record Plain (n : Bytes) (from i : ℕ) : Type 0 where
@@ -248,3 +257,7 @@ module _ {p n : Bytes} {i : ℕ} (s : Shares p n i) (pp : plain p ≡ true) (gn 
 
   pub alike-names : (pt t : Bool) → length p ≤ i → length n ≤ i → StandsIn p pt n t Wrong
   alike-names pt t h g = twice p pt n t gn (ap (λ (o : Ordering). by o false true false) (sym (ends-both (shares-compare s false false) h g)))
+
+-- the lower byte decides wherever it stands
+pub lower-apart : {p n : Bytes} → Lower p n → plain p ≡ true → goodName n ≡ true → (pt t : Bool) → StandsIn p pt n t Apart
+lower-apart l pp gn pt t = apart-byte (l .shares) pp gn (l .left) (l .right) pt t (l .less)

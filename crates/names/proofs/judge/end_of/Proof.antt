@@ -15,11 +15,8 @@ sub-left c = search needs
 returns-2 : tie.Need-returns-2
 returns-2 c = end-short _ _ _ (omega arith)
 
-shared-slice-read-if3 : tie.Need-shared-slice-read-if3
-shared-slice-read-if3 c = search needs
-
 returns-3 : tie.Need-returns-3
-returns-3 c = end-kind _ _ _ (c .if3 .taken)
+returns-3 c = end-far _ _ _ (omega arith)
 
 add-n : tie.Need-add-n
 add-n c = search needs
@@ -28,22 +25,25 @@ shared-slice-read-n : tie.Need-shared-slice-read-n
 shared-slice-read-n c = search needs
 
 cast-n : tie.Need-cast-n
-cast-n c = omega (arith, c .shared-slice-known2 .given (c .before .before .before .before .before .args .at + 1))
+cast-n c = omega (arith, c .shared-slice-known .given (c .before .before .before .before .args .at + 1))
+
+sub-if4 : tie.Need-sub-if4
+sub-if4 c = search needs
 
 returns-4 : tie.Need-returns-4
 returns-4 c = end-far _ _ _ (omega arith)
 
-sub-if5 : tie.Need-sub-if5
-sub-if5 c = search needs
+shared-slice-read-if5 : tie.Need-shared-slice-read-if5
+shared-slice-read-if5 c = search needs
 
 returns-5 : tie.Need-returns-5
-returns-5 c = end-far _ _ _ (omega arith)
+returns-5 c = end-kind _ _ _ (c .if5 .taken)
+
+add-t10 : tie.Need-add-t10
+add-t10 c = search needs
 
 add-t6 : tie.Need-add-t6
 add-t6 c = search needs
-
-add-t11 : tie.Need-add-t11
-add-t11 c = search needs
 
 add-t12 : tie.Need-add-t12
 add-t12 c = search needs
@@ -58,15 +58,15 @@ end-of-spec =
     returns
     sub-left
     returns-2
-    shared-slice-read-if3
     returns-3
     add-n
     shared-slice-read-n
     cast-n
+    sub-if4
     returns-4
-    sub-if5
+    shared-slice-read-if5
     returns-5
+    add-t10
     add-t6
-    add-t11
     add-t12
     returns-6)

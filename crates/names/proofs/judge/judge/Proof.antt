@@ -1,27 +1,27 @@
 -- `names::judge::judge` meets its contract. Assumes nothing.
 use borrow.Author.Needs.{needs}
-use Prim.Native.Nat.{_-_}
-use mathlib.Core.Path.{ap}
+use Prim.Native.Nat.{_-_, _<_}
 use native.Mathlib.Omega.{arith}
 use lib.ListN.{length}
-use Rattle.names.specs.Check.{sizeOf}
-use Rattle.names.specs.Judge.{heldAt, compactTree}
-use Rattle.names.proofs.FitLaws.{Checking, check-begin, check-end, check-damaged, check-broken, check-more}
-use Rattle.names.proofs.JudgeLaws.{compact-is, held-packs, read-damaged, read-ends, read-begins, read-name, read-reach, zero-is-tree, held-end}
+use Rattle.model.proofs.Basics.{not-true, not-false}
+use Rattle.names.specs.Judge.{Reached, Behind}
+use Rattle.names.proofs.AheadLaws.{name-size, behind-begin, reach-begin, reach-more, reach-broken}
+use Rattle.names.proofs.FitLaws.{check-end, check-damaged}
+use Rattle.names.proofs.JudgeLaws.{read-damaged, read-ends, held-end}
 use Rattle.names.proofs.judge.judge.Statement.{statement}
 use Rattle.names.proofs.judge.judge.Tie as tie
 
 abbrev Inv-loop : tie.InvT-loop
-Inv-loop tree width at₀ entries₀ name-bytes₀ prev₀ prev-tree₀ at entries name-bytes prev prev-tree = Checking (sizeOf (compactTree width tree)) (length tree) (heldAt tree width at) at entries name-bytes prev prev-tree
+Inv-loop tree width far₀ w₀ far w = Reached tree width (far .at) (far .prev) (far .entries) (far .bytes) × (far .at < length tree → Behind tree width (far .prev) (far .at) w)
 
 abbrev μ-loop : tie.MeasureT-loop
-μ-loop tree width at₀ entries₀ name-bytes₀ prev₀ prev-tree₀ at entries name-bytes prev prev-tree = length tree - at
-
-front-requires : tie.Need-front-requires Inv-loop μ-loop
-front-requires c κs = search needs
+μ-loop tree width far₀ w₀ far w = length tree - far .at
 
 loop-holds : tie.Need-loop-holds Inv-loop μ-loop
-loop-holds c = check-begin _ _ (ap sizeOf (compact-is _ _)) (λ ts q. held-packs _ _ ts q .1) (c .front .ensures)
+loop-holds c = (reach-begin _ _, λ h. behind-begin _ _ _ _)
+
+run-past-requires : tie.Need-run-past-requires Inv-loop μ-loop
+run-past-requires c κs = let i = c .before .before .loop .inv in (i .0, i .1 (c .if1 .taken))
 
 end-of-requires : tie.Need-end-of-requires Inv-loop μ-loop
 end-of-requires c κs = search needs
@@ -35,72 +35,84 @@ enum-told c = search needs
 returns : tie.Need-returns Inv-loop μ-loop
 returns c =
     let r = c .before .before in
-    check-damaged (r .before .before .loop .inv) (read-damaged _ _ _ (r .end-of .ensures) (r .before .loop-test .taken) (c .enum-told .given .1))
+    check-damaged (r .before .before .run-past .ensures .0 .checking) (read-damaged _ _ _ (r .end-of .ensures) (r .before .if2 .taken) (c .enum-told .given .1))
 
-add-a : tie.Need-add-a Inv-loop μ-loop
-add-a c =
-    let x = read-ends _ _ _ (c .before .before .before .end-of .ensures) (c .before .next .given .1) in
+goes-next-requires : tie.Need-goes-next-requires Inv-loop μ-loop
+goes-next-requires c κs =
+    let r = c .before .before .before in
+    let x = read-ends _ _ _ (r .end-of .ensures) (c .before .next .given .1) in
+    let s = r .before .before .run-past .ensures .0 in
+    (omega arith, x .inside, s .back, s .checking .clear)
+
+returns-2 : tie.Need-returns-2 Inv-loop μ-loop
+returns-2 c =
+    let k = c .before .before in
+    let r = k .before .before .before in
+    reach-broken (r .before .before .run-past .ensures .0) (r .before .if2 .taken) (r .end-of .ensures) (k .before .next .given .1) (c .before .goes-next .ensures) (not-true _ (c .if3 .taken))
+
+head-requires : tie.Need-head-requires Inv-loop μ-loop
+head-requires c κs =
+    let k = c .before .before in
+    let x = read-ends _ _ _ (k .before .before .before .end-of .ensures) (k .before .next .given .1) in
+    (omega arith, x .inside)
+
+sub-n : tie.Need-sub-n Inv-loop μ-loop
+sub-n c =
+    let k = c .before .before .before in
+    let x = read-ends _ _ _ (k .before .before .before .end-of .ensures) (k .before .next .given .1) in
     omega arith
 
-add-a-2 : tie.Need-add-a-2 Inv-loop μ-loop
-add-a-2 c =
-    let x = read-ends _ _ _ (c .before .before .before .end-of .ensures) (c .before .next .given .1) in
+sub-n-2 : tie.Need-sub-n-2 Inv-loop μ-loop
+sub-n-2 c =
+    let k = c .before .before .before in
+    let x = read-ends _ _ _ (k .before .before .before .end-of .ensures) (k .before .next .given .1) in
     omega arith
 
-sub-name : tie.Need-sub-name Inv-loop μ-loop
-sub-name c =
-    let x = read-ends _ _ _ (c .before .before .before .end-of .ensures) (c .before .next .given .1) in
+sub-n-3 : tie.Need-sub-n-3 Inv-loop μ-loop
+sub-n-3 c =
+    let k = c .before .before .before in
+    let x = read-ends _ _ _ (k .before .before .before .end-of .ensures) (k .before .next .given .1) in
     omega arith
-
-part-name-start : tie.Need-part-name-start Inv-loop μ-loop
-part-name-start c =
-    let x = read-ends _ _ _ (c .before .before .before .end-of .ensures) (c .before .next .given .1) in
-    omega arith
-
-part-name-end : tie.Need-part-name-end Inv-loop μ-loop
-part-name-end c =
-    let x = read-ends _ _ _ (c .before .before .before .end-of .ensures) (c .before .next .given .1) in
-    omega arith
-
-shared-slice-read-is-tree : tie.Need-shared-slice-read-is-tree Inv-loop μ-loop
-shared-slice-read-is-tree c = search needs
-
-may-follow-requires : tie.Need-may-follow-requires Inv-loop μ-loop
-may-follow-requires c κs = search needs
 
 loop-again : tie.Need-loop-again Inv-loop μ-loop
 loop-again c =
+    let h = c .before .before in
+    let k = h .before .before .before in
+    let r = k .before .before .before in
+    let x = read-ends _ _ _ (r .end-of .ensures) (k .before .next .given .1) in (
+      reach-more (r .before .before .run-past .ensures .0) (r .before .if2 .taken) (r .end-of .ensures) (k .before .next .given .1) (h .before .before .goes-next .ensures) (name-size x)
+          (not-false _ (h .before .if3 .left)),
+      λ _. h .head .ensures,
+    )
+
+add-t13 : tie.Need-add-t13 Inv-loop μ-loop
+add-t13 c =
     let k = c .before .before .before .before in
     let r = k .before .before .before in
-    check-more (r .before .before .loop .inv) (read-begins _ _ _ (r .end-of .ensures) (k .before .next .given .1) (r .before .loop-test .taken))
-    (read-name _ _ _ (r .end-of .ensures) (k .before .next .given .1)) (zero-is-tree _) (c .before .may-follow .ensures)
-    (read-reach _ _ _ (r .end-of .ensures) (k .before .next .given .1)) (read-ends _ _ _ (r .end-of .ensures) (k .before .next .given .1) .inside) (c .if1 .taken)
-
-add-entries : tie.Need-add-entries Inv-loop μ-loop
-add-entries c =
-    let w = loop-again c in
+    let x = read-ends _ _ _ (r .end-of .ensures) (k .before .next .given .1) in
+    let s = r .before .before .run-past .ensures .0 .checking in
     omega arith
 
-add-name-bytes : tie.Need-add-name-bytes Inv-loop μ-loop
-add-name-bytes c =
-    let w = loop-again c in
+add-t14 : tie.Need-add-t14 Inv-loop μ-loop
+add-t14 c =
+    let w = loop-again c .0 .checking in
     omega arith
 
 loop-less : tie.Need-loop-less Inv-loop μ-loop
 loop-less c =
-    let k = c .before .before .before .before in
-    let x = read-ends _ _ _ (k .before .before .before .end-of .ensures) (k .before .next .given .1) in
-    omega arith
-
-returns-2 : tie.Need-returns-2 Inv-loop μ-loop
-returns-2 c =
-    let k = c .before .before .before .before in
+    let k = c .before .before .before .before .before in
     let r = k .before .before .before in
-    check-broken (r .before .before .loop .inv) (read-begins _ _ _ (r .end-of .ensures) (k .before .next .given .1) (r .before .loop-test .taken))
-    (read-name _ _ _ (r .end-of .ensures) (k .before .next .given .1)) (zero-is-tree _) (c .before .may-follow .ensures) (c .if1 .left)
+    let x = read-ends _ _ _ (r .end-of .ensures) (k .before .next .given .1) in
+    omega (arith, r .before .before .run-past .ensures .1)
+
+loop-less-2 : tie.Need-loop-less-2 Inv-loop μ-loop
+loop-less-2 c = search needs
+
+loop-again-2 : tie.Need-loop-again-2 Inv-loop μ-loop
+loop-again-2 c = (c .before .run-past .ensures .0, λ h. absurd (omega arith))
 
 returns-3 : tie.Need-returns-3 Inv-loop μ-loop
-returns-3 c = check-end (c .before .loop .inv) (held-end _ _ _ (c .loop-test .left))
+returns-3 c = check-end (c .before .before .loop .inv .0 .checking) (held-end _ _ _ (c .if1 .left))
 
 pub judge-spec : {M : Type 1} → statement M
 judge-spec =
@@ -108,22 +120,22 @@ judge-spec =
     (tie.spec
     Inv-loop
     μ-loop
-    front-requires
     loop-holds
+    run-past-requires
     end-of-requires
     enum-known-next
     enum-told
     returns
-    add-a
-    add-a-2
-    sub-name
-    part-name-start
-    part-name-end
-    shared-slice-read-is-tree
-    may-follow-requires
-    add-entries
-    add-name-bytes
+    goes-next-requires
+    returns-2
+    head-requires
+    sub-n
+    sub-n-2
+    sub-n-3
+    add-t13
+    add-t14
     loop-less
     loop-again
-    returns-2
+    loop-less-2
+    loop-again-2
     returns-3)

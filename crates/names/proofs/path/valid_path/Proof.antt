@@ -1,24 +1,17 @@
 -- `names::path::valid_path` meets its contract. Assumes nothing.
-use Rattle.names.proofs.EmptyLaws.{invalid-empty, valid-unless}
 use borrow.Author.Needs.{needs}
+use Rattle.names.proofs.ValidLaws.{valid-long, valid-short}
 use Rattle.names.proofs.path.valid_path.Statement.{statement}
 use Rattle.names.proofs.path.valid_path.Tie as tie
 
-has-empty-requires : tie.Need-has-empty-requires
-has-empty-requires c κs = search needs
-
 returns : tie.Need-returns
-returns c = invalid-empty _ (c .before .has-empty .ensures) (c .if1 .taken)
+returns c = valid-long _ (c .if1 .taken)
 
-front-requires : tie.Need-front-requires
-front-requires c κs = search needs
-
-is-refused-requires : tie.Need-is-refused-requires
-is-refused-requires c κs = search needs
+has-bad-part-requires : tie.Need-has-bad-part-requires
+has-bad-part-requires c κs = search needs
 
 returns-2 : tie.Need-returns-2
-returns-2 c = valid-unless _ (c .before .before .before .has-empty .ensures) (c .before .before .if1 .left) (c .is-refused .ensures) (c .before .front .ensures)
+returns-2 c = valid-short _ (c .before .if1 .left) (c .has-bad-part .ensures)
 
 pub valid-path-spec : {M : Type 1} → statement M
-valid-path-spec =
-    tie.close (tie.spec has-empty-requires returns front-requires is-refused-requires returns-2)
+valid-path-spec = tie.close (tie.spec returns has-bad-part-requires returns-2)
