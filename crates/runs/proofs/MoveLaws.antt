@@ -1,11 +1,10 @@
 -- Laws of `splice`, `part`, `inserted` and `removed`. Assumes nothing.
 use mathlib.Core.Path.{_≡_, refl, sym, ap, ap₂, _∙_}
 use mathlib.Core.List.{List, [], _∷_, _++_, append-assoc}
-use Prim.Native.Nat.{ℕ, zero, suc, _+_, _-_, _≤_, _<_}
+use Prim.Native.Nat.{ℕ, suc, _+_, _-_, _≤_, _<_}
 use native.Mathlib.Nat.{add-zero}
-use native.Mathlib.Numerals.{add-one}
 use native.Mathlib.Omega.{arith}
-use lib.ListN.{length, take, drop, getD, set, length-append, length-drop, length-set, take-append-drop}
+use lib.ListN.{length, take, drop, getD, set, length-append, length-drop, take-append-drop}
 use lib.Seq.{drop-cons, set-split, length-take-le, take-at, drop-at, take-append-le, drop-append-le, take-take, drop-drop, take-add}
 use Rattle.names.specs.Splice.{splice}
 use Rattle.names.proofs.WriteLaws.{length-splice, splice-splice}
@@ -78,38 +77,6 @@ part-behind d p xs k m h g =
     (ap (λ (x : ℕ). drop x (splice d p xs)) e ∙ sym (drop-drop (k - q) q (splice d p xs))
     ∙ ap (drop (k - q)) (drop-at (take p d ++ xs) (drop q d) q l)
     ∙ drop-drop (k - q) q d ∙ ap (λ (x : ℕ). drop x d) (sym e))
-
--- ---- bytes read, and written, one after the other
-
-abbrev pub reads : List ℕ → ℕ → ℕ → ℕ → List ℕ
-reads l k j zero = []
-reads l k j (suc n) = getD l (k + j) 0 ∷ reads l k (suc j) n
-
-reads-is : (l : List ℕ) (k j n : ℕ) → k + j + n ≤ length l → reads l k j n ≡ part l (k + j) n
-reads-is l k j zero h = refl
-reads-is l k j (suc n) h =
-    let e : k + suc j ≡ suc (k + j) = omega arith in
-    ap (λ (x : List ℕ). getD l (k + j) 0 ∷ x) (reads-is l k (suc j) n (omega arith) ∙ ap (λ (x : ℕ). part l x n) e) ∙ sym (part-cons l (k + j) n (omega arith))
-
-pub read-part : (l : List ℕ) (k n : ℕ) → k + suc n ≤ length l → (getD l k 0 ∷ reads l k 1 n) ≡ part l k (suc n)
-read-part l k n h =
-    ap (λ (x : List ℕ). getD l k 0 ∷ x) (reads-is l k 1 n (omega arith) ∙ ap (λ (x : ℕ). part l x n) (add-one k)) ∙ sym (part-cons l k n (omega arith))
-
-abbrev pub writes : List ℕ → ℕ → ℕ → List ℕ → List ℕ
-writes s k j [] = s
-writes s k j (v ∷ vs) = writes (set s (k + j) v) k (suc j) vs
-
--- a byte written, and others behind it
-one-more : (s : List ℕ) (p q v : ℕ) (vs : List ℕ) → q ≡ p + 1 → p + suc (length vs) ≤ length s → splice (set s p v) q vs ≡ splice s p (v ∷ vs)
-one-more s p q v vs e h = ap₂ (λ (l : List ℕ) (m : ℕ). splice l m vs) (splice-one s p v (omega arith)) e ∙ splice-splice s p (v ∷ []) vs (omega arith)
-
-writes-is : (s : List ℕ) (k j : ℕ) (vs : List ℕ) → k + j + length vs ≤ length s → writes s k j vs ≡ splice s (k + j) vs
-writes-is s k j [] h = splice-nil s (k + j)
-writes-is s k j (v ∷ vs) h =
-    writes-is (set s (k + j) v) k (suc j) vs (simp length-set (omega arith)) ∙ one-more s (k + j) (k + suc j) v vs (omega arith) (omega arith)
-
-pub write-part : (s : List ℕ) (k v : ℕ) (vs : List ℕ) → k + suc (length vs) ≤ length s → writes (set s k v) k 1 vs ≡ splice s k (v ∷ vs)
-write-part s k v vs h = writes-is (set s k v) k 1 vs (simp length-set (omega arith)) ∙ one-more s k (k + 1) v vs refl h
 
 -- ---- a turn of each loop, which moves as many bytes as it likes
 

@@ -1,12 +1,7 @@
 -- What the moves of a lent slice leave: a part of a list, and a part put into or taken out of a gap-free list. Assumes nothing.
 use Prim.Native.Nat.{ℕ, _+_}
-use mathlib.Core.List.{List, [], _∷_, _++_}
+use mathlib.Core.List.{List, _++_}
 use lib.ListN.{length, take, drop}
-use Rattle.runs.specs.declared.moves.Eight.{Eight}
-
--- eight bytes, as a list
-abbrev pub eight : Eight → List ℕ
-eight x = x .a ∷ x .b ∷ x .c ∷ x .d ∷ x .e ∷ x .f ∷ x .g ∷ x .h ∷ []
 
 -- the `n` elements of `l` from `at` on
 abbrev pub part : List ℕ → ℕ → ℕ → List ℕ

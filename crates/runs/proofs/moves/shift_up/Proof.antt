@@ -8,23 +8,18 @@ use Rattle.runs.proofs.moves.shift_up.Statement.{statement}
 use Rattle.runs.proofs.moves.shift_up.Tie as tie
 
 abbrev Inv-loop : tie.InvT-loop
-Inv-loop s₀ at used n k₀ s k = Raised s₀ at k₀ n s k
+Inv-loop s₀ at used n k₀ s k = Raised s₀ at used n s k
 
 abbrev μ-loop : tie.MeasureT-loop
 μ-loop s₀ at used n k₀ s k = k
 
 returns : tie.Need-returns Inv-loop μ-loop
 returns c =
-    let a = c .before .before .args in
+    let a = c .before .args in
     stays (a .s .now) (a .at + a .n) (a .at) (a .used - a .at) (omega (arith, c .if1 .taken)) (omega arith)
 
-eights-up-requires : tie.Need-eights-up-requires Inv-loop μ-loop
-eights-up-requires c κs = search needs
-
 loop-holds : tie.Need-loop-holds Inv-loop μ-loop
-loop-holds c =
-    let e = c .before .before .eights-up in
-    raise-none (e .last .0) _ (e .result) _ (e .ensures .0)
+loop-holds c = raise-none _ _ _ _ (c .before .pre .0)
 
 sub-k : tie.Need-sub-k Inv-loop μ-loop
 sub-k c = search needs
@@ -50,12 +45,7 @@ same-length : tie.Need-same-length Inv-loop μ-loop
 same-length c = search needs
 
 returns-2 : tie.Need-returns-2 Inv-loop μ-loop
-returns-2 c =
-    let l = c .before in
-    let e = c .before .before .before .before .eights-up in
-    let s = c .before .before .before .before .before .before .before .before in
-    let w : Raised (s .args .s .now) (s .args .at) (s .args .used) (s .args .n) (e .last .0) (e .result) = record { low = e .ensures .0; high = e .ensures .1; long = e .kept .0; moved = e .ensures .2 } in
-    raised (raise w (s .pre .1) (s .args .at) (e .result - s .args .at) (omega arith) (omega (arith, e .ensures .0)) _ _ refl (raised (l .loop .inv) (omega arith) (c .loop-test .left))) (s .pre .1) (omega arith)
+returns-2 c = raised (c .before .loop .inv) (c .before .before .before .pre .1) (c .loop-test .left)
 
 pub shift-up-spec : {M : Type 1} → statement M
 shift-up-spec =
@@ -64,7 +54,6 @@ shift-up-spec =
     Inv-loop
     μ-loop
     returns
-    eights-up-requires
     loop-holds
     sub-k
     slice-read-s
