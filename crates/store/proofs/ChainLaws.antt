@@ -1,19 +1,19 @@
 -- Laws of the trees that a write has taken: those set aside one after the other, those stacked, and the start. Assumes nothing.
-use mathlib.Core.Path.{_≡_, refl, sym, ap, ap₂, _∙_}
+use mathlib.Core.Path.{_≡_, refl, sym, ap, _∙_}
 use mathlib.Core.Bool.{Bool, true, false, _&&_}
 use mathlib.Core.List.{List, [], _∷_, _++_, map, reverse, reverse-append}
 use Prim.Native.Nat.{ℕ, zero, suc, _+_, _-_, _≤_, _<_}
-use native.Mathlib.Numerals.{add-one}
 use native.Mathlib.Omega.{arith}
 use borrow.Author.Tests.{eq-eqb, ne-eqb}
 use lib.Dec.{eqb}
-use lib.ListN.{length, take, drop, getD, drop-of-length-le}
-use lib.Seq.{take-suc, drop-cons}
+use lib.ListN.{length, take, drop, getD, drop-of-length-le, length-drop}
+use lib.Seq.{take-suc, drop-cons, getD-drop}
 use Rattle.model.specs.Bytes.{Bytes, same, isNil}
 use Rattle.model.specs.Editor.{Held}
 use Rattle.model.specs.Valid.{hasParent, haveParents, asideGood, takenGood}
 use Rattle.model.specs.Write.{bottom}
 use Rattle.model.proofs.ByteLaws.{same-refl}
+use Rattle.runs.proofs.FindLaws.{and-false}
 use Rattle.slots.specs.View.{heldAt, pathOf}
 use Rattle.store.specs.Written.{asideBy, startFrom}
 
@@ -50,6 +50,15 @@ taken-start s asked stacked (h ∷ hs) =
     regroup : (a b c d : Bool) → (((a && b) && c) && d) ≡ (a && ((b && c) && d))
     regroup true b c d = refl
     regroup false b c d = refl
+
+-- ---- what lies below those set aside: the requested tree, and the stacked ones
+
+module _ (p : Bytes) (stacked aside : List Held) (c : Bool) (t : c ≡ hasParent p aside) where
+  pub below-unasked : c ≡ false → false ≡ (hasParent p aside && haveParents stacked aside)
+  below-unasked e = sym (ap (λ (x : Bool). x && haveParents stacked aside) (sym t ∙ e))
+
+  pub below-rest : c ≡ true → (d : Bool) → d ≡ haveParents stacked aside → d ≡ (hasParent p aside && haveParents stacked aside)
+  below-rest e d q = q ∙ sym (ap (λ (x : Bool). x && haveParents stacked aside) (sym t ∙ e))
 
 module _ (w : ℕ) (plens paths tlens trees order : List ℕ) where
   abbrev h : ℕ → Held
@@ -104,30 +113,26 @@ module _ (w : ℕ) (plens paths tlens trees order : List ℕ) where
         let e : i ≡ 1 = omega (arith, k .low, g) in
         sym (k .rest ∙ ap (λ (x : ℕ). asideGood s (by x)) e ∙ good-one (omega (arith, k .low, k .high, l)))
 
-  -- the stacked trees before i have their parents: those from i on decide
-  pub record Stacking (a n i : ℕ) : Type 0 where
-    pub low : a ≤ i
-    pub high : i ≤ 64
-    pub rest : haveParents (map h (drop a order)) (by n) ≡ haveParents (map h (drop i order)) (by n)
+  -- each of a list has its parent, or one of it has none
+  each-has : (A : List Held) (l : List ℕ) → ((j : ℕ) → j < length l → hasParent (pathOf plens paths (getD l j 0)) A ≡ true) → haveParents (map h l) A ≡ true
+  each-has A [] f = refl
+  each-has A (k ∷ l) f = ap (λ (x : Bool). x && haveParents (map h l) A) (f 0 (omega arith)) ∙ each-has A l (λ j g. f (suc j) (omega (arith, g)))
 
-  pub stacking-all : (a n : ℕ) → a ≤ 64 → Stacking a n a
-  stacking-all a n g = record { low = omega arith; high = g; rest = refl }
+  one-has-not : (A : List Held) (l : List ℕ) (j : ℕ) → j < length l → hasParent (pathOf plens paths (getD l j 0)) A ≡ false → haveParents (map h l) A ≡ false
+  one-has-not A [] j g e = absurd (omega arith)
+  one-has-not A (k ∷ l) zero g e = ap (λ (x : Bool). x && haveParents (map h l) A) e
+  one-has-not A (k ∷ l) (suc j) g e = sym (and-false (hasParent (pathOf plens paths k) A) (haveParents (map h l) A) (one-has-not A l j (omega arith) e))
 
-  module _ (a n i : ℕ) (k : Stacking a n i) (l : length order ≡ 64) where
-    module _ (g : i < 64) (b : Bool) (t : b ≡ hasParent (pathOf plens paths (getD order i 0)) (by n)) where
-      stack-turn : haveParents (map h (drop a order)) (by n) ≡ (b && haveParents (map h (drop (i + 1) order)) (by n))
-      stack-turn =
-          k .rest ∙ ap (λ (x : List ℕ). haveParents (map h x) (by n)) (drop-cons order i 0 (omega (arith, l)))
-          ∙ ap₂ (λ (x : Bool) (y : ℕ). x && haveParents (map h (drop y order)) (by n)) (sym t) (sym (add-one i))
+  -- the stacked trees that stand from a on
+  pub stack-all : (A : List Held) (a : ℕ) → length order ≡ 64 → ((j : ℕ) → a ≤ j → j < 64 → hasParent (pathOf plens paths (getD order j 0)) A ≡ true) → haveParents (map h (drop a order)) A ≡ true
+  stack-all A a l f =
+      each-has A (drop a order)
+      (λ j g. ap (λ (x : ℕ). hasParent (pathOf plens paths x) A) (getD-drop a order j 0) ∙ f (a + j) (omega arith) (omega (arith, g, length-drop a order, l)))
 
-      pub stacking-bad : b ≡ false → false ≡ haveParents (map h (drop a order)) (by n)
-      stacking-bad f = sym (stack-turn ∙ ap (λ (x : Bool). x && haveParents (map h (drop (i + 1) order)) (by n)) f)
-
-      pub stacking-more : b ≡ true → Stacking a n (i + 1)
-      stacking-more f = record { low = omega (arith, k .low); high = omega arith; rest = stack-turn ∙ ap (λ (x : Bool). x && haveParents (map h (drop (i + 1) order)) (by n)) f }
-
-    pub stacking-done : 64 ≤ i → true ≡ haveParents (map h (drop a order)) (by n)
-    stacking-done g = sym (k .rest ∙ ap (λ (x : List ℕ). haveParents (map h x) (by n)) (drop-of-length-le order {i = i} (omega (arith, l))))
+  pub stack-bad : (A : List Held) (a j : ℕ) → length order ≡ 64 → a ≤ j → j < 64 → hasParent (pathOf plens paths (getD order j 0)) A ≡ false → haveParents (map h (drop a order)) A ≡ false
+  stack-bad A a j l g m e =
+      let q : a + (j - a) ≡ j = omega arith in
+      one-has-not A (drop a order) (j - a) (omega (arith, length-drop a order, l)) (ap (λ (x : ℕ). hasParent (pathOf plens paths x) A) (getD-drop a order (j - a) 0 ∙ ap (λ (x : ℕ). getD order x 0) q) ∙ e)
 
   -- ---- all that are taken
 
@@ -150,20 +155,13 @@ module _ (w : ℕ) (plens paths tlens trees order : List ℕ) where
       let e : by (suc m) ≡ h (getD order m 0) ∷ by m = aside-more m g in
       ap (takenGood s (h asked) stack) e ∙ ap (λ (x : List Held). (asideGood s x && hasParent (pathOf plens paths asked) x) && haveParents stack x) (sym e)
 
-  -- something is: the three tests, in turn
+  -- something is: it is good, and so is what lies below it
   module _ (m asked : ℕ) (stack : List Held) (n : m ≡ 0 → ⊥) (g : m ≤ length order) (b : Bool) (t : b ≡ asideGood s (by m)) where
     pub chain-unlinked : b ≡ false → false ≡ takenGood (pathOf plens paths (startFrom m asked order)) (h asked) stack (by m)
     chain-unlinked e = sym (chain-some m asked stack n g ∙ ap (λ (x : Bool). (x && hasParent (pathOf plens paths asked) (by m)) && haveParents stack (by m)) (sym t ∙ e))
 
-    module _ (y : b ≡ true) (c : Bool) (u : c ≡ hasParent (pathOf plens paths asked) (by m)) where
-      two : takenGood (pathOf plens paths (startFrom m asked order)) (h asked) stack (by m) ≡ (c && haveParents stack (by m))
-      two = chain-some m asked stack n g ∙ ap₂ (λ (x z : Bool). (x && z) && haveParents stack (by m)) (sym t ∙ y) (sym u)
-
-      pub chain-unasked : c ≡ false → false ≡ takenGood (pathOf plens paths (startFrom m asked order)) (h asked) stack (by m)
-      chain-unasked e = sym (two ∙ ap (λ (x : Bool). x && haveParents stack (by m)) e)
-
-      pub chain-rest : c ≡ true → (d : Bool) → d ≡ haveParents stack (by m) → d ≡ takenGood (pathOf plens paths (startFrom m asked order)) (h asked) stack (by m)
-      chain-rest e d q = q ∙ sym (two ∙ ap (λ (x : Bool). x && haveParents stack (by m)) e)
+    pub chain-rest : b ≡ true → (d : Bool) → d ≡ (hasParent (pathOf plens paths asked) (by m) && haveParents stack (by m)) → d ≡ takenGood (pathOf plens paths (startFrom m asked order)) (h asked) stack (by m)
+    chain-rest y d q = q ∙ sym (chain-some m asked stack n g ∙ ap (λ (x : Bool). (x && hasParent (pathOf plens paths asked) (by m)) && haveParents stack (by m)) (sym t ∙ y))
 
   -- the first set aside is the start
   bottom-first : (n : ℕ) (g : Held) → n < length order → bottom g (by (suc n)) ≡ h (getD order 0 0)

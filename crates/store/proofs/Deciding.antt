@@ -60,6 +60,9 @@ pub along-none : {P : ℕ → Type 0} {lens : List ℕ} → Along P lens 0 0
 unfolding total
 along-none = record { sofar = none-yet; offset = refl }
 
+pub along-as : {P Q : ℕ → Type 0} {lens : List ℕ} {k a : ℕ} → Along P lens k a → ((j : ℕ) → j < k → P j → Q j) → Along Q lens k a
+along-as at f = record { sofar = record { within = at .sofar .within; each = λ j h. f j h (at .sofar .each j h) }; offset = at .offset }
+
 module _ {P : ℕ → Type 0} {lens bytes : List ℕ} {k a used : ℕ} (at : Along P lens k a) (sound : Sound lens bytes used) (l : length lens ≡ 64) (h : k < 64) where
   pub ends : a + getD lens k 0 ≤ used
   ends = omega (arith, at .offset, total-within lens k (omega (arith, l)), sound .sum)

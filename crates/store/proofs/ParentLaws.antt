@@ -1,5 +1,5 @@
 -- Laws of the trees that lie below others: a tree entry is found in tree order, and a parent by its path, which one slot has. Assumes nothing.
-use mathlib.Core.Path.{_≡_, refl, sym, ap, _∙_, subst}
+use mathlib.Core.Path.{_≡_, refl, sym, ap, ap₂, _∙_, subst}
 use mathlib.Core.Bool.{Bool, true, false, _&&_, _||_}
 use mathlib.Core.Option.{Option, none, some}
 use mathlib.Core.List.{List, [], _∷_, _++_, map, reverse, reverse-cons}
@@ -187,6 +187,10 @@ module _ (w : ℕ) (r : Editor) (plens paths tlens trees : List ℕ) (S : Lays w
         go true q = some-none (h j) (sym (used-found j (a .0)) ∙ ap (λ (x : Bytes). find at x (viewOf w r plens paths tlens trees)) (same-eq (pathOf plens paths j) (dir p) q) ∙ f)
         go false q = refl
 
+    -- a slot of the list that is at the path and has the entry
+    pub below-known : (k : ℕ) → Used r k → pathOf plens paths k ≡ dir p → (ks : List ℕ) → All (Used r) ks → has k ks ≡ true → isTreeEntry (entryOf (base p) (treeOf w tlens trees k)) ≡ true → hasParent p (reverse (map h ks)) ≡ true
+    below-known k u e ks a t y = parent-reverse p (map h ks) ∙ parent-is k u e ks a ∙ ap₂ (λ (x z : Bool). x && z) t y
+
     module _ (q : Bytes) (e : q ≡ dir p) (f : Found) (g : f ≡ findFrom 0 D ps q) where
       told : SlotIs w D ps bs (dir p) f
       told = subst (λ (x : Bytes). SlotIs w D ps bs x f) e (subst (SlotIs w D ps bs q) (sym g) (slot-is w (r .free) ps bs q (ps-even w r plens paths tlens trees (S .laid)) (bs-even w r plens paths tlens trees (S .laid))))
@@ -221,6 +225,15 @@ module _ {A : Type 0} (P : A → Type 0) where
   all-at (x ∷ l) zero d h q = q .0
   all-at (x ∷ l) (suc i) d h q = all-at l i d (omega arith) (q .1)
 
+pub has-own : (l : List ℕ) (i : ℕ) → i < length l → has (getD l i 0) l ≡ true
+has-own [] i h = absurd (omega arith)
+has-own (x ∷ l) zero h = has-here x x l refl
+has-own (x ∷ l) (suc i) h = go (has-own l i (omega arith)) (eqb x (getD l i 0)) refl
+  where
+    go : has (getD l i 0) l ≡ true → (b : Bool) → eqb x (getD l i 0) ≡ b → has (getD l i 0) (x ∷ l) ≡ true
+    go ih true t = has-here (getD l i 0) x l (eqb-true x (getD l i 0) t)
+    go ih false t = has-past (getD l i 0) x l (eqb-false x (getD l i 0) t) ∙ ih
+
 module _ {r : Editor} {order : List ℕ} (o : Opened r order) where
   pub aside-used : (n : ℕ) → n ≤ r .aside → All (Used r) (take n order)
   aside-used n h = subst (All (Used r)) (take-take n (r .aside) order h) (all-take (Used r) n (take (r .aside) order) (all-left (Used r) (take (r .aside) order) (drop (64 - r .stacked) order) (o .used .1)))
@@ -228,10 +241,16 @@ module _ {r : Editor} {order : List ℕ} (o : Opened r order) where
   pub stacked-used : All (Used r) (drop (64 - r .stacked) order)
   stacked-used = all-right (Used r) (take (r .aside) order) (drop (64 - r .stacked) order) (o .used .1)
 
+  -- one of those that were set aside is used, and among them
+  pub aside-at : (i : ℕ) → i < r .aside → length order ≡ 64 → Used r (getD order i 0) × (has (getD order i 0) (take (r .aside) order) ≡ true)
+  aside-at i h l =
+      let t : List ℕ = take (r .aside) order in
+      let n : i < length t = omega (arith, length-take-le (r .aside) order (omega (arith, l, o .room))) in
+      let e : getD t i 0 ≡ getD order i 0 = getD-take (r .aside) order i 0 h in
+      (subst (Used r) e (all-at (Used r) t i 0 n (aside-used (r .aside) (omega arith))), ap (λ (x : ℕ). has x t) (sym e) ∙ has-own t i n)
+
   pub aside-low : (i : ℕ) → i < r .aside → length order ≡ 64 → getD order i 0 < 64
-  aside-low i h l =
-      let u : Used r (getD (take (r .aside) order) i 0) = all-at (Used r) (take (r .aside) order) i 0 (omega (arith, length-take-le (r .aside) order (omega (arith, l, o .room)))) (aside-used (r .aside) (omega arith)) in
-      omega (arith, u .low, getD-take (r .aside) order i 0 h)
+  aside-low i h l = aside-at i h l .0 .low
 
   pub stacked-low : (i : ℕ) → 64 - r .stacked ≤ i → i < 64 → length order ≡ 64 → getD order i 0 < 64
   stacked-low i h g l =

@@ -22,18 +22,18 @@ fn is_sound(lens: &[u64], bytes: &[u8], used: usize) -> bool
     runs::runs::sum_is(lens, used)
 }
 
-// Whether the slot k may have these two lengths: none where it is free.
-fn blank(map: u64, k: usize, n: u64, m: u64) -> bool
-    requires { ⌜ k < 64 ⌝ }
-    ensures { λ r. ⌜ Decides (Blank (getD (digits 64 map) k 0) n m) r ⌝ }
+// Whether the slot k has the lengths that it may have: none where it is free.
+fn blank(map: u64, k: usize, plens: &[u64], tlens: &[u64]) -> bool
+    requires { ⌜ (k < 64) × (length (now plens) ≡ 64) × (length (now tlens) ≡ 64) ⌝ }
+    ensures { λ r. ⌜ Decides (Blank (getD (digits 64 map) k 0) (getD (now (plens .entry)) k 0) (getD (now (tlens .entry)) k 0)) r ⌝ }
 {
     if !runs::free::is_free(map, k) {
         return true;
     }
-    if n != 0 {
+    if plens[k] != 0 {
         return false;
     }
-    m == 0
+    tlens[k] == 0
 }
 
 // Whether the free slots have no path and no tree.
@@ -43,7 +43,7 @@ fn blanks(map: u64, plens: &[u64], tlens: &[u64]) -> bool
 {
     let mut k = 0;
     while k < 64 {
-        if !blank(map, k, plens[k], tlens[k]) {
+        if !blank(map, k, plens, tlens) {
             return false;
         }
         k += 1;
@@ -125,17 +125,49 @@ fn is_first(map: u64, plens: &[u64], paths: &[u8], used: usize, k: usize, path: 
     is_new(map, plens, paths, used, k, path)
 }
 
-// Whether the paths of the used slots are different.
-fn apart(map: u64, plens: &[u64], paths: &[u8], used: usize) -> bool
+// The slots whose paths have a number that came before: every other one, if used, is the first at its path.
+fn repeated(map: u64, plens: &[u64], paths: &[u8], used: usize) -> u64
     requires { ⌜ Sound (now plens) (now paths) used × (length (now plens) ≡ 64) ⌝ }
-    ensures { λ r. ⌜ Decides ((k : ℕ) → k < 64 → First (digits 64 map) (cut (now (plens .entry)) (now (paths .entry))) k) r ⌝ }
+    ensures { λ r. ⌜ ((k : ℕ) → k < 64 → getD (digits 64 r) k 0 ≡ 0 → First (digits 64 map) (cut (now (plens .entry)) (now (paths .entry))) k) ⌝ }
 {
+    let mut seen = [0u64; 64];
+    let mut again: u64 = 0;
     let mut a: usize = 0;
     let mut k = 0;
     while k < 64 {
         let e = a + plens[k] as usize;
-        if !is_first(map, plens, paths, used, k, &paths[a..e]) {
-            return false;
+        if !runs::free::is_free(map, k) {
+            let t = crate::tag::tag(&paths[a..e]);
+            let w = seen[t / 64];
+            if runs::free::is_free(w, t % 64) {
+                again = runs::free::mark(again, k);
+            } else {
+                seen[t / 64] = runs::free::give(w, t % 64);
+            }
+        }
+        a = e;
+        k += 1;
+    }
+    again
+}
+
+// Whether the paths of the used slots are different. Only a path with a number that came before is held against the earlier ones.
+fn apart(map: u64, plens: &[u64], paths: &[u8], used: usize) -> bool
+    requires { ⌜ Sound (now plens) (now paths) used × (length (now plens) ≡ 64) ⌝ }
+    ensures { λ r. ⌜ Decides ((k : ℕ) → k < 64 → First (digits 64 map) (cut (now (plens .entry)) (now (paths .entry))) k) r ⌝ }
+{
+    let again = repeated(map, plens, paths, used);
+    if again == 0 {
+        return true;
+    }
+    let mut a: usize = 0;
+    let mut k = 0;
+    while k < 64 {
+        let e = a + plens[k] as usize;
+        if runs::free::is_free(again, k) {
+            if !is_first(map, plens, paths, used, k, &paths[a..e]) {
+                return false;
+            }
         }
         a = e;
         k += 1;

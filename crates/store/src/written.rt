@@ -16,7 +16,9 @@ ghost use Rattle.runs.specs.Runs.{cut, Sound};
 ghost use Rattle.slots.specs.View.{gather, slotsOf, heldAt, pathOf, asideOf, stackedOf, Closed, Opened};
 ghost use Rattle.store.specs.Decides.{Decides};
 ghost use Rattle.store.specs.Laid.{Lays};
+ghost use Rattle.store.specs.Parents.{Begun, Parented, Hanging};
 ghost use Rattle.store.specs.Written.{Written, Taking, Marks, asideBy, startSlot, startFine};
+use crate::parents::Known;
 use runs::runs::Found;
 use slots::Editor;
 
@@ -189,8 +191,136 @@ fn aside_ok(
     true
 }
 
-// Whether each stacked tree lies below one that was set aside.
+// How far down the stacked trees lie below those that were set aside, in the order of these and of their entries, and whether the requested tree comes after them.
+fn walked(
+    r: Editor,
+    plens: &[u64],
+    paths: &[u8],
+    tlens: &[u64],
+    trees: &[u8],
+    order: &[u64],
+    width: usize,
+    begins: &[u64],
+) -> Known
+    requires { ⌜ Taking width r (now plens) (now paths) (now tlens) (now trees) (now order) × Begun (now plens) (now paths) (now begins) ⌝ }
+    ensures { λ f. ⌜ Hanging width r (now (plens .entry)) (now (paths .entry)) (now (tlens .entry)) (now (trees .entry)) (now (order .entry)) f ⌝ }
+{
+    let lo = 64 - r.stacked;
+    let path = crate::parents::path_at(plens, paths, begins, r.asked);
+    let mut f = Known {
+        low: 64,
+        asked: false,
+    };
+    let mut n = 0;
+    while n < r.aside {
+        if f.low <= lo {
+            return f;
+        }
+        let k = order[n] as usize;
+        let home = crate::parents::path_at(plens, paths, begins, k);
+        let tree = runs::runs::run(tlens, trees, r.trees, k);
+        f = crate::parents::family(
+            home,
+            tree,
+            width,
+            plens,
+            paths,
+            begins,
+            order,
+            lo,
+            f.low,
+            path,
+        );
+        n += 1;
+    }
+    f
+}
+
+// The same, where trees are stacked.
+fn hanging(
+    r: Editor,
+    plens: &[u64],
+    paths: &[u8],
+    tlens: &[u64],
+    trees: &[u8],
+    order: &[u64],
+    width: usize,
+) -> Known
+    requires { ⌜ Taking width r (now plens) (now paths) (now tlens) (now trees) (now order) ⌝ }
+    ensures { λ f. ⌜ Hanging width r (now (plens .entry)) (now (paths .entry)) (now (tlens .entry)) (now (trees .entry)) (now (order .entry)) f ⌝ }
+{
+    if r.stacked == 0 {
+        return Known {
+            low: 64,
+            asked: false,
+        };
+    }
+    let mut begins = [0u64; 64];
+    crate::parents::begin(plens, &mut begins);
+    walked(r, plens, paths, tlens, trees, order, width, &begins)
+}
+
+// Whether the requested tree lies below one that was set aside, where that is not known.
+fn asked_ok(
+    r: Editor,
+    plens: &[u64],
+    paths: &[u8],
+    tlens: &[u64],
+    trees: &[u8],
+    order: &[u64],
+    width: usize,
+    known: bool,
+) -> bool
+    requires { ⌜ Taking width r (now plens) (now paths) (now tlens) (now trees) (now order)
+        × (known ≡ true → hasParent (pathOf (now plens) (now paths) (r .asked)) (asideOf width r (now plens) (now paths) (now tlens) (now trees) (now order)) ≡ true) ⌝ }
+    ensures { λ b. ⌜ b ≡ hasParent (pathOf (now (plens .entry)) (now (paths .entry)) (r .asked))
+        (asideOf width r (now (plens .entry)) (now (paths .entry)) (now (tlens .entry)) (now (trees .entry)) (now (order .entry))) ⌝ }
+{
+    if known {
+        return true;
+    }
+    has_parent(
+        r,
+        plens,
+        paths,
+        tlens,
+        trees,
+        order,
+        width,
+        r.aside,
+        r.asked,
+    )
+}
+
+// Whether each stacked tree lies below one that was set aside, where those from `low` on do.
 fn stacked_ok(
+    r: Editor,
+    plens: &[u64],
+    paths: &[u8],
+    tlens: &[u64],
+    trees: &[u8],
+    order: &[u64],
+    width: usize,
+    low: usize,
+) -> bool
+    requires { ⌜ Taking width r (now plens) (now paths) (now tlens) (now trees) (now order) × Parented width r (now plens) (now paths) (now tlens) (now trees) (now order) low ⌝ }
+    ensures { λ b. ⌜ b ≡ haveParents (stackedOf width r (now (plens .entry)) (now (paths .entry)) (now (tlens .entry)) (now (trees .entry)) (now (order .entry)))
+        (asideOf width r (now (plens .entry)) (now (paths .entry)) (now (tlens .entry)) (now (trees .entry)) (now (order .entry))) ⌝ }
+{
+    let lo = 64 - r.stacked;
+    let mut i = low;
+    while lo < i {
+        i -= 1;
+        let k = order[i] as usize;
+        if !has_parent(r, plens, paths, tlens, trees, order, width, r.aside, k) {
+            return false;
+        }
+    }
+    true
+}
+
+// Whether the requested tree and each stacked tree lie below one that was set aside.
+fn below_ok(
     r: Editor,
     plens: &[u64],
     paths: &[u8],
@@ -200,18 +330,14 @@ fn stacked_ok(
     width: usize,
 ) -> bool
     requires { ⌜ Taking width r (now plens) (now paths) (now tlens) (now trees) (now order) ⌝ }
-    ensures { λ b. ⌜ b ≡ haveParents (stackedOf width r (now (plens .entry)) (now (paths .entry)) (now (tlens .entry)) (now (trees .entry)) (now (order .entry)))
-        (asideOf width r (now (plens .entry)) (now (paths .entry)) (now (tlens .entry)) (now (trees .entry)) (now (order .entry))) ⌝ }
+    ensures { λ b. ⌜ b ≡ (hasParent (pathOf (now (plens .entry)) (now (paths .entry)) (r .asked)) (asideOf width r (now (plens .entry)) (now (paths .entry)) (now (tlens .entry)) (now (trees .entry)) (now (order .entry)))
+        && haveParents (stackedOf width r (now (plens .entry)) (now (paths .entry)) (now (tlens .entry)) (now (trees .entry)) (now (order .entry))) (asideOf width r (now (plens .entry)) (now (paths .entry)) (now (tlens .entry)) (now (trees .entry)) (now (order .entry)))) ⌝ }
 {
-    let mut i = 64 - r.stacked;
-    while i < 64 {
-        let k = order[i] as usize;
-        if !has_parent(r, plens, paths, tlens, trees, order, width, r.aside, k) {
-            return false;
-        }
-        i += 1;
+    let f = hanging(r, plens, paths, tlens, trees, order, width);
+    if !asked_ok(r, plens, paths, tlens, trees, order, width, f.asked) {
+        return false;
     }
-    true
+    stacked_ok(r, plens, paths, tlens, trees, order, width, f.low)
 }
 
 // The slot of the tree that the write started at.
@@ -247,20 +373,7 @@ fn chain_ok(
     if !aside_ok(r, plens, paths, tlens, trees, order, width) {
         return false;
     }
-    if !has_parent(
-        r,
-        plens,
-        paths,
-        tlens,
-        trees,
-        order,
-        width,
-        r.aside,
-        r.asked,
-    ) {
-        return false;
-    }
-    stacked_ok(r, plens, paths, tlens, trees, order, width)
+    below_ok(r, plens, paths, tlens, trees, order, width)
 }
 
 // Whether a root is cached.

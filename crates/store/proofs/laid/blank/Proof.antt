@@ -32,13 +32,29 @@ is-free-requires : tie.Need-is-free-requires
 is-free-requires c κs = search needs
 
 returns : tie.Need-returns
-returns c = used _ _ _ _ (c .before .before .pre) _ (c .before .is-free .ensures) (c .if1 .taken)
+returns c = used _ _ _ _ (c .before .before .before .before .pre .0) _ (c .before .is-free .ensures) (c .if1 .taken)
+
+mul-if2 : tie.Need-mul-if2
+mul-if2 c = search needs
+
+shared-slice-read-if2 : tie.Need-shared-slice-read-if2
+shared-slice-read-if2 c = search needs
 
 returns-2 : tie.Need-returns-2
-returns-2 c = long _ _ _ _ (c .before .before .before .pre) _ (c .before .before .is-free .ensures) (c .before .if1 .left) (c .if2 .taken)
+returns-2 c =
+    let o = c .before .before in
+    long _ _ _ _ (o .before .before .before .before .pre .0) _ (o .before .is-free .ensures) (o .if1 .left) (c .if2 .taken)
+
+mul-result : tie.Need-mul-result
+mul-result c = search needs
+
+shared-slice-read-result : tie.Need-shared-slice-read-result
+shared-slice-read-result c = search needs
 
 returns-3 : tie.Need-returns-3
-returns-3 c = both _ _ _ _ (c .before .before .before .pre) _ (c .before .before .is-free .ensures) (c .before .if1 .left) (c .if2 .left)
+returns-3 c =
+    let o = c .before .before .before in
+    both _ _ _ _ (o .before .before .before .before .pre .0) _ (o .before .is-free .ensures) (o .if1 .left) (c .before .if2 .left)
 
 pub blank-spec : {M : Type 1} → statement M
-blank-spec = tie.close (tie.spec is-free-requires returns returns-2 returns-3)
+blank-spec = tie.close (tie.spec is-free-requires returns mul-if2 shared-slice-read-if2 returns-2 mul-result shared-slice-read-result returns-3)

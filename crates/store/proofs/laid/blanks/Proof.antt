@@ -19,50 +19,23 @@ abbrev μ-loop : tie.MeasureT-loop
 loop-holds : tie.Need-loop-holds Inv-loop μ-loop
 loop-holds c = none-yet
 
-mul-blank : tie.Need-mul-blank Inv-loop μ-loop
-mul-blank c = search needs
-
-shared-slice-read-blank : tie.Need-shared-slice-read-blank Inv-loop μ-loop
-shared-slice-read-blank c = search needs
-
-mul-blank-2 : tie.Need-mul-blank-2 Inv-loop μ-loop
-mul-blank-2 c = search needs
-
-shared-slice-read-blank-2 : tie.Need-shared-slice-read-blank-2 Inv-loop μ-loop
-shared-slice-read-blank-2 c = search needs
-
 blank-requires : tie.Need-blank-requires Inv-loop μ-loop
 blank-requires c κs = search needs
 
 returns : tie.Need-returns Inv-loop μ-loop
-returns c = refuses (λ f. refused (c .before .blank .ensures) (not-true _ (c .if1 .taken)) (f _ (c .before .before .before .before .loop-test .taken)))
+returns c = refuses (λ f. refused (c .before .blank .ensures) (not-true _ (c .if1 .taken)) (f _ (c .before .before .loop-test .taken)))
 
 add-k : tie.Need-add-k Inv-loop μ-loop
 add-k c = search needs
 
 loop-less : tie.Need-loop-less Inv-loop μ-loop
-loop-less c = omega (arith, c .before .before .before .before .loop-test .taken)
+loop-less c = omega (arith, c .before .before .loop-test .taken)
 
 loop-again : tie.Need-loop-again Inv-loop μ-loop
-loop-again c = one-more (c .before .before .before .before .before .loop .inv) (c .before .before .before .before .loop-test .taken) (c .before .blank .ensures .yes (not-false _ (c .if1 .left)))
+loop-again c = one-more (c .before .before .before .loop .inv) (c .before .before .loop-test .taken) (c .before .blank .ensures .yes (not-false _ (c .if1 .left)))
 
 returns-2 : tie.Need-returns-2 Inv-loop μ-loop
 returns-2 c = accepts (all-so (c .before .loop .inv) (c .loop-test .left))
 
 pub blanks-spec : {M : Type 1} → statement M
-blanks-spec =
-    tie.close
-    (tie.spec
-    Inv-loop
-    μ-loop
-    loop-holds
-    mul-blank
-    shared-slice-read-blank
-    mul-blank-2
-    shared-slice-read-blank-2
-    blank-requires
-    returns
-    add-k
-    loop-less
-    loop-again
-    returns-2)
+blanks-spec = tie.close (tie.spec Inv-loop μ-loop loop-holds blank-requires returns add-k loop-less loop-again returns-2)

@@ -1,9 +1,9 @@
--- `store::written::chain_ok` meets its contract: it tests the three parts of what hangs together in turn. Assumes nothing.
+-- `store::written::chain_ok` meets its contract: it tests those set aside and then what lies below them. Assumes nothing.
 use native.Mathlib.Omega.{arith}
 use borrow.Author.Tests.{not-true, not-false}
 use borrow.Author.Needs.{needs}
 use Rattle.slots.specs.View.{stackedOf}
-use Rattle.store.proofs.ChainLaws.{chain-none, chain-unlinked, chain-unasked, chain-rest}
+use Rattle.store.proofs.ChainLaws.{chain-none, chain-unlinked, chain-rest}
 use Rattle.store.proofs.written.chain_ok.Statement.{statement}
 use Rattle.store.proofs.written.chain_ok.Tie as tie
 
@@ -23,36 +23,16 @@ returns-2 c =
     let q = c .before in
     chain-unlinked (a .width) (a .plens .now) (a .paths .now) (a .tlens .now) (a .trees .now) (a .order .now) (a .r .aside) (a .r .asked) (stackedOf (a .width) (a .r) (a .plens .now) (a .paths .now) (a .tlens .now) (a .trees .now) (a .order .now)) (c .before .before .if1 .left) (omega (arith, s .pre .order-64, s .pre .opened .room)) (q .aside-ok .result) (q .aside-ok .ensures) (not-true _ (c .if2 .taken))
 
-has-parent-requires : tie.Need-has-parent-requires
-has-parent-requires c κs = search needs
+below-ok-requires : tie.Need-below-ok-requires
+below-ok-requires c κs = search needs
 
 returns-3 : tie.Need-returns-3
 returns-3 c =
-    let s = c .before .before .before .before .before .before .before .before .before .before .before in
+    let s = c .before .before .before .before .before .before .before .before .before .before in
     let a = s .args in
-    let q = c .before .before .before in
-    chain-unasked (a .width) (a .plens .now) (a .paths .now) (a .tlens .now) (a .trees .now) (a .order .now) (a .r .aside) (a .r .asked) (stackedOf (a .width) (a .r) (a .plens .now) (a .paths .now) (a .tlens .now) (a .trees .now) (a .order .now)) (c .before .before .before .before .if1 .left) (omega (arith, s .pre .order-64, s .pre .opened .room)) (q .aside-ok .result) (q .aside-ok .ensures)
-    (not-false _ (c .before .before .if2 .left)) (c .before .has-parent .result) (c .before .has-parent .ensures) (not-true _ (c .if3 .taken))
-
-stacked-ok-requires : tie.Need-stacked-ok-requires
-stacked-ok-requires c κs = search needs
-
-returns-4 : tie.Need-returns-4
-returns-4 c =
-    let s = c .before .before .before .before .before .before .before .before .before .before .before .before in
-    let a = s .args in
-    let q = c .before .before .before .before in
-    chain-rest (a .width) (a .plens .now) (a .paths .now) (a .tlens .now) (a .trees .now) (a .order .now) (a .r .aside) (a .r .asked) (stackedOf (a .width) (a .r) (a .plens .now) (a .paths .now) (a .tlens .now) (a .trees .now) (a .order .now)) (c .before .before .before .before .before .if1 .left) (omega (arith, s .pre .order-64, s .pre .opened .room)) (q .aside-ok .result) (q .aside-ok .ensures)
-    (not-false _ (c .before .before .before .if2 .left)) (c .before .before .has-parent .result) (c .before .before .has-parent .ensures) (not-false _ (c .before .if3 .left)) (c .stacked-ok .result) (c .stacked-ok .ensures)
+    let q = c .before .before in
+    chain-rest (a .width) (a .plens .now) (a .paths .now) (a .tlens .now) (a .trees .now) (a .order .now) (a .r .aside) (a .r .asked) (stackedOf (a .width) (a .r) (a .plens .now) (a .paths .now) (a .tlens .now) (a .trees .now) (a .order .now)) (c .before .before .before .if1 .left) (omega (arith, s .pre .order-64, s .pre .opened .room)) (q .aside-ok .result) (q .aside-ok .ensures)
+    (not-false _ (c .before .if2 .left)) (c .below-ok .result) (c .below-ok .ensures)
 
 pub chain-ok-spec : {M : Type 1} → statement M
-chain-ok-spec =
-    tie.close
-    (tie.spec
-    returns
-    aside-ok-requires
-    returns-2
-    has-parent-requires
-    returns-3
-    stacked-ok-requires
-    returns-4)
+chain-ok-spec = tie.close (tie.spec returns aside-ok-requires returns-2 below-ok-requires returns-3)
