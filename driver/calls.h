@@ -32,7 +32,7 @@ static bool kept;
 
 /* Inputs and outputs of calls. */
 static struct lent raw, prefix, path, id, ids, ends, raws;
-static struct lent out, out_path, out_lens, out_id;
+static struct lent out, out_path, out_lens, out_id, out_next;
 static uint32_t mode;
 static struct bytes table_ids, table_ends, table_raws;
 static bool roomy, probing;
@@ -79,9 +79,10 @@ static void add_object(const uint8_t *object, const uint8_t *bytes, size_t len)
 
 /* ---- calls ---- */
 
-enum op { NEW, SET_ROOT, UPSERT, REMOVE, LEAF, CURSOR, GET, BEGIN, REQUEST, ANSWER, FAIL };
+enum op { NEW, SET_ROOT, UPSERT, REMOVE, LEAF, CURSOR, GET, BEGIN, REQUEST, ANSWER, ONWARD, FAIL };
 
 #define LENT(l) (l).at, (l).len
+#define READ_TO LENT(out), LENT(out_path), (size_t *)(void *)out_lens.at, out_lens.len / sizeof(size_t)
 #define ONE_ARRAY(k) (void *)array[k].at, count[k]
 #define STORE ONE_ARRAY(PLENS), ONE_ARRAY(PATHS), ONE_ARRAY(TLENS), ONE_ARRAY(TREES), ONE_ARRAY(ORDER)
 #define TABLE LENT(ids), (const uint32_t *)(const void *)ends.at, ends.len / sizeof(uint32_t), LENT(raws)
@@ -104,9 +105,9 @@ static uint32_t call(enum op op, bool below)
     case GET:
         return below ? tree_editor_get_at(ed, STORE, LENT(prefix), LENT(path), LENT(out_id)) : tree_editor_get(ed, STORE, LENT(path), LENT(out_id));
     case BEGIN: return below ? tree_editor_begin_at(&ed, STORE, LENT(prefix)) : tree_editor_begin(&ed, STORE);
-    case REQUEST:
-        return tree_editor_request(ed, STORE, LENT(out), LENT(out_path), (size_t *)(void *)out_lens.at, out_lens.len / sizeof(size_t));
+    case REQUEST: return tree_editor_request(ed, STORE, READ_TO);
     case ANSWER: return tree_editor_answer(&ed, STORE, LENT(id));
+    case ONWARD: return tree_editor_answer_and_request(&ed, STORE, LENT(id), READ_TO, LENT(out_next));
     case FAIL: return tree_editor_fail(&ed, STORE);
     }
     abort();
@@ -151,8 +152,14 @@ static bool outputs_kept(enum op op, uint32_t number)
 {
     if (op == GET)
         return lent_marked(&out_id, number >= TREE_EDITOR_TREE ? TREE_EDITOR_ID : 0);
-    if (op != REQUEST)
+    if (op == ONWARD) {
+        bool looked = number != TREE_EDITOR_BAD_ARGUMENT;
+        if (!lent_marked(&out_next, looked))
+            return false;
+        number = looked ? out_next.at[0] : number;
+    } else if (op != REQUEST) {
         return true;
+    }
     bool done = number == TREE_EDITOR_DONE;
     if (done && (length_given(0) > out.len || length_given(1) > out_path.len))
         return false;
@@ -166,6 +173,7 @@ static void refused(enum op op, bool below, uint32_t number, const char *why)
     uint32_t got = call(op, below);
     if (got != number || changed(false) || !outputs_kept(op, got))
         printf("PROBE %s: %u for %u\n", why, got, number);
+    lend(&out_next, out_next.len);
 }
 
 /* The same call with something wrong in what is lent. */
@@ -192,7 +200,7 @@ static void probe(enum op op, bool below)
         refused(op, below, TREE_EDITOR_BAD_ARGUMENT, "mode");
         mode = right;
     }
-    if (op == UPSERT || op == ANSWER) {
+    if (op == UPSERT || op == ANSWER || op == ONWARD) {
         id.len--;
         refused(op, below, TREE_EDITOR_BAD_ARGUMENT, "id short");
         id.len++, id.at--, id.len++;
@@ -203,7 +211,12 @@ static void probe(enum op op, bool below)
         lend(&out_id, TREE_EDITOR_ID - 1);
         refused(op, below, TREE_EDITOR_OUTPUT_SHORT, "id output short");
     }
-    if (op == REQUEST) {
+    if (op == ONWARD) {
+        lend(&out_next, 0);
+        refused(op, below, TREE_EDITOR_BAD_ARGUMENT, "no number");
+        lend(&out_next, 1 + extra());
+    }
+    if (op == REQUEST || op == ONWARD) {
         size_t right = out_lens.len;
         out_lens.len = sizeof(size_t);
         refused(op, below, TREE_EDITOR_BAD_ARGUMENT, "lens short");
@@ -220,6 +233,7 @@ static uint32_t checked(enum op op, bool below)
 {
     keep();
     lend(&out_id, TREE_EDITOR_ID + extra());
+    lend(&out_next, 1 + extra());
     if (probing)
         probe(op, below);
     lend(&out_id, TREE_EDITOR_ID + extra());
@@ -239,12 +253,17 @@ static uint32_t checked(enum op op, bool below)
     return number;
 }
 
-/* Reads the open request into so many bytes of output. */
-static uint32_t request(size_t room)
+/* Reads the open request into so many bytes of output; or (ONWARD) answers it, and reads the next one. */
+static uint32_t reading(enum op op, size_t room)
 {
     lend(&out, room);
     lend(&out_path, TREE_EDITOR_PATH + extra());
     lend(&out_lens, (2 + extra()) * sizeof(size_t));
-    return checked(REQUEST, false);
+    return checked(op, false);
+}
+
+static uint32_t request(size_t room)
+{
+    return reading(REQUEST, room);
 }
 #endif

@@ -1,7 +1,7 @@
 /* The trace protocol of oracle/PROTOCOL.md, spoken through the C functions of tree_editor.h: calls on standard input, answers and dumps on
  * standard output, the same text as oracle-trace.
  *
- *     trace [--brief] [--roomy] [--probe]
+ *     trace [--brief] [--roomy] [--probe] [--next]
  *
  * What the Rust cannot show is checked here after every call, and printed as a line that oracle-trace never prints:
  *   CHANGED   a number from 5 on, a lookup or a request left another byte in record or arrays
@@ -13,7 +13,9 @@
  *
  * --roomy lends arrays and outputs that are longer than needed; the bytes behind must stay as they are.
  * --probe makes each call first with an array that is one element short, with a count in the record off by one, and with bad arguments; each
- * must be refused with its number and change nothing. */
+ * must be refused with its number and change nothing.
+ * --next answers and reads the next request by the one call that does both, by turns with an output that is long enough and with one that is
+ * not: the request is then read again with the length needed. */
 #include <stdbool.h>
 #include <stdint.h>
 #include <stdio.h>
@@ -136,6 +138,40 @@ static void put_request(void)
     put_hex(out.at, length_given(0));
 }
 
+static bool onward;
+static int read_ahead = -1; /* what the call that answered gave for the request that is open now; -1: it read none */
+
+/* Answers the open request. */
+static uint32_t answer(void)
+{
+    static const size_t rooms[] = {TREE_EDITOR_OUTPUT, 0, TREE_EDITOR_OUTPUT, 40};
+    static unsigned turn;
+    if (!onward)
+        return checked(ANSWER, false);
+    uint32_t number = reading(ONWARD, rooms[turn++ % 4]), next = out_next.at[0];
+    bool more = number == TREE_EDITOR_DONE && ed.open;
+    if (more ? next && next != TREE_EDITOR_OUTPUT_SHORT : next != (number ? number : TREE_EDITOR_NO_WRITE_OPEN))
+        puts("NUMBER");
+    read_ahead = more ? (int)next : -1;
+    return number;
+}
+
+/* Reads the open request, where the answer before it didn't. */
+static uint32_t next_request(void)
+{
+    int ahead = read_ahead;
+    read_ahead = -1;
+    if (ahead == TREE_EDITOR_DONE)
+        return TREE_EDITOR_DONE;
+    if (ahead != TREE_EDITOR_OUTPUT_SHORT)
+        return request(TREE_EDITOR_OUTPUT);
+    size_t needed = length_given(0);
+    uint32_t number = request(needed);
+    if (needed != length_given(0))
+        puts("NUMBER");
+    return number;
+}
+
 /* The answer of a write's begin or answer: the next request, or the id that ended the write. */
 static void says_step(uint32_t number)
 {
@@ -145,7 +181,7 @@ static void says_step(uint32_t number)
         printf("%s => 0 done ", line);
         put_hex(id.at, id.len);
         putchar_unlocked('\n');
-    } else if (request(TREE_EDITOR_OUTPUT) == TREE_EDITOR_DONE) {
+    } else if (next_request() == TREE_EDITOR_DONE) {
         printf("%s => 0 request ", line);
         put_request();
         putchar_unlocked('\n');
@@ -187,7 +223,7 @@ static void finish(bool below, bool keeping)
     uint8_t answered[TREE_EDITOR_ID];
     uint32_t number = checked(BEGIN, below);
     while (number == TREE_EDITOR_DONE && ed.open) {
-        number = request(TREE_EDITOR_OUTPUT);
+        number = next_request();
         if (number != TREE_EDITOR_DONE)
             break;
         git_id(answered, "tree", out.at, length_given(0));
@@ -199,7 +235,7 @@ static void finish(bool below, bool keeping)
         putchar_unlocked('\n');
         if (keeping)
             add_object(answered, out.at, length_given(0));
-        number = checked(ANSWER, false);
+        number = answer();
     }
     lend_table();
     says_step(number);
@@ -295,7 +331,7 @@ static bool one_call(char **word)
         says_step(checked(BEGIN, take_prefix(word[1])));
     } else if (!strcmp(name, "answer")) {
         take(&id, word[1]);
-        says_step(checked(ANSWER, false));
+        says_step(answer());
     } else if (!strcmp(name, "fail")) {
         says(checked(FAIL, false));
     } else if (!strcmp(name, "finish")) {
@@ -319,6 +355,8 @@ int main(int argc, char **argv)
             roomy = true;
         else if (!strcmp(argv[k], "--probe"))
             probing = true;
+        else if (!strcmp(argv[k], "--next"))
+            onward = true;
         else
             broken(argv[k]);
     }

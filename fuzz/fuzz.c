@@ -39,13 +39,15 @@ typedef enum {
     BEGIN_AT,
     REQUEST,
     ANSWER,
+    ONWARD,
     FAIL,
     HOLDS,
     OPS
 } op;
 static const char *const names[OPS] = {"new",         "set_root",       "upsert",    "upsert_at", "remove", "remove_at",
                                        "remove_leaf", "remove_leaf_at", "cursor_at", "get",       "get_at", "begin",
-                                       "begin_at",    "request",        "answer",    "fail",      "holds"};
+                                       "begin_at",    "request",        "answer",    "answer_and_request",
+                                       "fail",        "holds"};
 
 /* A record and five arrays with room for more than their fronts, and how much of them is lent. */
 typedef struct {
@@ -59,12 +61,12 @@ typedef struct {
     op op;
     bytes prefix, path, raw;
     uint8_t id[40];
-    size_t id_len, out_len, at_len, lens_len;
+    size_t id_len, out_len, at_len, lens_len, next_len;
     uint32_t mode;
 } call;
 
 /* What is lent to the call at hand. */
-static struct { lend_area ed, plens, paths, tlens, trees, order, ids, ends, raws, prefix, path, id, raw, out, at, lens; } lent;
+static struct { lend_area ed, plens, paths, tlens, trees, order, ids, ends, raws, prefix, path, id, raw, out, at, lens, next; } lent;
 
 static uint64_t seed, calls, counts[3][OPS][16];
 static size_t deepest[OPS];
@@ -117,6 +119,7 @@ static void lend_all(const image *im, const call *c, const table *t) {
     hand(&lent.out, spare, c->out_len);
     hand(&lent.at, spare, c->at_len);
     hand(&lent.lens, spare, c->lens_len * sizeof(size_t));
+    hand(&lent.next, spare, c->next_len);
 }
 
 #define EDIT (tree_editor *)(void *)lent.ed.given, STORE
@@ -124,6 +127,7 @@ static void lend_all(const image *im, const call *c, const table *t) {
 #define STORE WORDS(plens), lent.paths.given, im->paths_len, WORDS(tlens), lent.trees.given, im->trees_len, WORDS(order)
 #define TABLE LENT(ids), (uint32_t *)(void *)lent.ends.given, t->count, LENT(raws)
 #define LENT(a) lent.a.given, lent.a.bytes
+#define READ_TO LENT(out), LENT(at), (size_t *)(void *)lent.lens.given, c->lens_len
 
 static __attribute__((noinline)) uint32_t make_call(const image *im, const call *c, const table *t) {
     stack_from(__builtin_frame_address(0));
@@ -141,8 +145,9 @@ static __attribute__((noinline)) uint32_t make_call(const image *im, const call 
     case GET_AT: return tree_editor_get_at(im->ed, STORE, LENT(prefix), LENT(path), LENT(id));
     case BEGIN: return tree_editor_begin(EDIT);
     case BEGIN_AT: return tree_editor_begin_at(EDIT, LENT(prefix));
-    case REQUEST: return tree_editor_request(im->ed, STORE, LENT(out), LENT(at), (size_t *)(void *)lent.lens.given, c->lens_len);
+    case REQUEST: return tree_editor_request(im->ed, STORE, READ_TO);
     case ANSWER: return tree_editor_answer(EDIT, LENT(id));
+    case ONWARD: return tree_editor_answer_and_request(EDIT, LENT(id), READ_TO, LENT(next));
     case FAIL: return tree_editor_fail(EDIT);
     default: return tree_editor_holds(im->ed, STORE);
     }
@@ -176,8 +181,9 @@ static int known_mode(uint32_t m) {
 /* The number that the call has to give by the check alone; -1: another than 13 and 14. */
 static int foretold(const check_lent *s, const call *c) {
     if ((c->op == UPSERT || c->op == UPSERT_AT) && (!known_mode(c->mode) || c->id_len != 20)) return 14;
-    if (c->op == ANSWER && c->id_len != 20) return 14;
-    if (c->op == REQUEST && (c->lens_len < 2 || c->at_len < TREE_EDITOR_PATH)) return 14;
+    if ((c->op == ANSWER || c->op == ONWARD) && c->id_len != 20) return 14;
+    if ((c->op == REQUEST || c->op == ONWARD) && (c->lens_len < 2 || c->at_len < TREE_EDITOR_PATH)) return 14;
+    if (c->op == ONWARD && c->next_len < 1) return 14;
     if (c->op == NEW) return check_long_enough(s) ? check_root(c->raw.at, c->raw.len) : 13;
     if (c->op == HOLDS) return check_holds(s);
     return check_holds(s) ? -1 : 13;
@@ -203,11 +209,21 @@ static int inputs_same(const call *c) {
 static int outputs_same(const call *c, uint32_t said) {
     const size_t *lens = (const size_t *)(const void *)lent.lens.at;
     if (c->op == GET || c->op == GET_AT) return lend_same(&lent.id, said >= MODE ? 20 : 0);
-    if (c->op != REQUEST || said >= 12 || said == 10)
+    if (!lend_same(&lent.next, c->op == ONWARD && said != 14)) return 0;
+    if (c->op == ONWARD && said != 14) said = lent.next.at[0]; /* what was read after the answer */
+    if ((c->op != REQUEST && c->op != ONWARD) || said >= 12 || said == 10)
         return lend_same(&lent.out, 0) && lend_same(&lent.at, 0) && lend_same(&lent.lens, 0);
     if (!lend_same(&lent.lens, (said == 11 ? 1 : 2) * sizeof(size_t))) return 0;
     if (said == 11) return lens[0] > c->out_len && lend_same(&lent.out, 0) && lend_same(&lent.at, 0);
     return lens[0] <= c->out_len && lens[1] <= TREE_EDITOR_PATH && lend_same(&lent.out, lens[0]) && lend_same(&lent.at, lens[1]);
+}
+
+/* Whether the second number goes with the first: what reads the request after an answer is refused as the answer is, or finds a request or
+ * none as the record says. */
+static int next_goes(const call *c, uint32_t said, const tree_editor *after) {
+    if (c->op != ONWARD || said == 14) return 1;
+    uint8_t next = lent.next.at[0];
+    return said ? next == said : after->open ? next == 0 || next == 11 : next == 10;
 }
 
 static int margins(void) {
@@ -247,6 +263,7 @@ static uint32_t perform(int kind, image *im, const call *c, const table *t) {
     if (!inputs_same(c)) differs("changed what it may only read");
     if (!outputs_same(c, said)) differs("changed more of its outputs than it may");
     if ((refused || reads(c->op)) && !store_same()) differs("changed a lent byte though it refused or only reads");
+    if (!next_goes(c, said, (const tree_editor *)(const void *)lent.ed.at)) differs("gives a second number that cannot be");
     if (!behind_same()) differs("changed bytes behind an array's front");
     if (c->op < BEGIN && !lend_same(&lent.order, 0)) differs("changed the order, which it may only read");
     if (!refused && !reads(c->op)) {
@@ -282,8 +299,8 @@ static bytes cached_path(const image *im, int of_entry) {
 }
 
 static op random_op(int open) {
-    static const uint8_t weights[2][OPS] = {{1, 3, 30, 10, 8, 4, 6, 3, 9, 10, 5, 5, 5, 1, 1, 1, 2},
-                                            {1, 1, 2, 1, 1, 1, 1, 1, 1, 2, 1, 1, 1, 15, 40, 3, 2}};
+    static const uint8_t weights[2][OPS] = {{1, 3, 30, 10, 8, 4, 6, 3, 9, 10, 5, 5, 5, 1, 1, 1, 1, 2},
+                                            {1, 1, 2, 1, 1, 1, 1, 1, 1, 2, 1, 1, 1, 15, 20, 25, 3, 2}};
     size_t sum = 0;
     for (int i = 0; i < OPS; i++) sum += weights[open][i];
     size_t at = make_below(sum);
@@ -300,23 +317,25 @@ static call random_call(const image *im, int good, style how) {
               .out_len = TREE_EDITOR_OUTPUT,
               .at_len = TREE_EDITOR_PATH,
               .lens_len = 2,
+              .next_len = 1,
               .mode = make_mode()};
-    if (make_once(4)) c.at_len += make_below(EXTRA), c.lens_len += make_below(3);
+    if (make_once(4)) c.at_len += make_below(EXTRA), c.lens_len += make_below(3), c.next_len += make_below(3);
     c.raw = c.op <= SET_ROOT ? make_raw(how) : (bytes){malloc(1), 0};
     c.path = good && make_once(3) ? cached_path(im, 1) : make_path(how);
     c.prefix = good && !make_once(6) ? cached_path(im, 0) : make_path(SMALL);
     make_id(c.id);
-    if (c.op == REQUEST && make_once(2)) c.out_len = make_once(2) ? make_below(40) : make_below(TREE_EDITOR_OUTPUT);
+    if ((c.op == REQUEST || c.op == ONWARD) && make_once(2)) c.out_len = make_once(2) ? make_below(40) : make_below(TREE_EDITOR_OUTPUT);
     return c;
 }
 
 /* Arguments that only the C functions can be given: 14, or 11 of a lookup. */
 static void spoil(call *c) {
-    switch (make_below(5)) {
+    switch (make_below(6)) {
     case 0: c->mode = make_once(2) ? (uint32_t)make_word() : make_mode() ^ 1u << make_below(32); break;
     case 1: c->id_len = make_below(40); break;
     case 2: c->lens_len = make_below(4); break;
     case 3: c->at_len = make_once(2) ? TREE_EDITOR_PATH - 1 : make_below(TREE_EDITOR_PATH); break;
+    case 4: c->next_len = 0; break;
     default: c->id_len = 19 + make_below(3); break;
     }
 }
@@ -415,7 +434,7 @@ static void put_number(const char *form, unsigned n) {
 static void put_call(const call *c) {
     static const char *const words[OPS] = {"new ",    "setroot ", "upsert . ", "upsert ", "remove . ", "remove ",
                                            "leaf . ", "leaf ",    "cursor ",   "get . ",  "get ",      "begin .",
-                                           "begin ",  "read ",    "answer ",   "fail",    ""};
+                                           "begin ",  "read ",    "answer ",   "answer ", "fail",      ""};
     used_of_line = 0;
     put(words[c->op]);
     if (c->op == UPSERT_AT || c->op == REMOVE_AT || c->op == REMOVE_LEAF_AT || c->op == GET_AT || c->op == BEGIN_AT)
@@ -423,7 +442,7 @@ static void put_call(const call *c) {
     if (c->op == UPSERT_AT || c->op == REMOVE_AT || c->op == REMOVE_LEAF_AT || c->op == GET_AT) put(" ");
     if (c->op >= UPSERT && c->op <= GET_AT) put_hex(c->path.at, c->path.len);
     if (c->op == UPSERT || c->op == UPSERT_AT) put_number(" %o ", c->mode);
-    if (c->op == UPSERT || c->op == UPSERT_AT || c->op == ANSWER) put_hex(c->id, 20);
+    if (c->op == UPSERT || c->op == UPSERT_AT || c->op == ANSWER || c->op == ONWARD) put_hex(c->id, 20);
     if (c->op <= SET_ROOT) put_hex(c->raw.at, c->raw.len);
     if (c->op == REQUEST) put_number("%u", (unsigned)c->out_len);
     fprintf(to_calls, "%s\n", line);
@@ -444,6 +463,18 @@ static void read_request(image *im, const table *t) {
     put_request();
 }
 
+/* What the call that answered read, or, where its output was too short, what `request` reads with the length that it said is needed. */
+static void read_onward(image *im, const table *t) {
+    size_t needed = *(const size_t *)(const void *)lent.lens.at;
+    if (lent.next.at[0] == 0) {
+        put(" request ");
+        put_request();
+        return;
+    }
+    read_request(im, t);
+    if (*(const size_t *)(const void *)lent.lens.at != needed) differs("has another length than an answer said is needed");
+}
+
 static void say_answer(image *im, const call *c, uint32_t said, const table *t) {
     put(" => ");
     if (c->op == GET || c->op == GET_AT) {
@@ -457,9 +488,9 @@ static void say_answer(image *im, const call *c, uint32_t said, const table *t) 
         put_number("%u", said);
         if (c->op == REQUEST && said == 0) put(" "), put_request();
         if (c->op == REQUEST && said == 11) put_number(" %u", (unsigned)*(const size_t *)(const void *)lent.lens.at);
-        if ((c->op == BEGIN || c->op == BEGIN_AT || c->op == ANSWER) && said == 0) {
+        if ((c->op == BEGIN || c->op == BEGIN_AT || c->op == ANSWER || c->op == ONWARD) && said == 0) {
             if (im->ed.open)
-                read_request(im, t);
+                c->op == ONWARD ? read_onward(im, t) : read_request(im, t);
             else
                 put(" done "), put_hex(c->id, 20);
         }
@@ -674,7 +705,8 @@ static void make_areas(void) {
                                   300000,
                                   TREE_EDITOR_OUTPUT,
                                   TREE_EDITOR_PATH + EXTRA,
-                                  64};
+                                  64,
+                                  16};
     lend_area *all = (lend_area *)&lent;
     for (size_t i = 0; i < sizeof most / sizeof *most; i++) lend_make(&all[i], most[i]);
 }

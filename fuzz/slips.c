@@ -53,4 +53,15 @@ uint8_t __wrap_tree_editor_fail(tree_editor *ed, TREE_EDITOR_STORE, TREE_EDITOR_
     if (said == 0 && ed->names > 0) ed->names--; /* a count not kept */
     return said;
 }
+#elif LIBRARY_SLIP == 10
+uint8_t __wrap_tree_editor_answer_and_request(tree_editor *ed, TREE_EDITOR_STORE, uint64_t *order, size_t order_len,
+                                              const uint8_t *id, size_t id_len, uint8_t *out, size_t out_len, uint8_t *path,
+                                              size_t path_len, size_t *lens, size_t lens_len, uint8_t *next, size_t next_len) {
+    if (id_len != TREE_EDITOR_ID || next_len == 0) return TREE_EDITOR_BAD_ARGUMENT;
+    uint8_t read = tree_editor_request(*ed, ARGS_EDIT, out, out_len, path, path_len, lens, lens_len); /* before the answer */
+    if (read == TREE_EDITOR_BAD_ARGUMENT) return read;
+    uint8_t said = tree_editor_answer(ed, ARGS_EDIT, id, id_len);
+    next[0] = said == 0 && !ed->open ? TREE_EDITOR_NO_WRITE_OPEN : read;
+    return said;
+}
 #endif

@@ -27,7 +27,8 @@ enum {
     TREE_EDITOR_OUTPUT = 45056  /* bytes of output that every request fits in */
 };
 
-/* The numbers that calls give back. From 5 on, no lent byte and no field of the record has changed, but for the length that goes with 11. */
+/* The numbers that calls give back. From 5 on, no lent byte and no field of the record has changed, but for the length that goes with 11 and
+ * the second number of tree_editor_answer_and_request. */
 enum {
     TREE_EDITOR_DONE = 0,
     TREE_EDITOR_EMPTY_COMPONENT = 1, /* the walk reached an empty component; earlier steps stay */
@@ -44,7 +45,8 @@ enum {
     TREE_EDITOR_BAD_ROOT = 12,       /* the new root isn't a well-formed raw tree */
     TREE_EDITOR_STORE_DAMAGED = 13,  /* record and arrays hold no editor */
     TREE_EDITOR_BAD_ARGUMENT = 14    /* for C alone: a mode that is none of the five, an id that isn't 20 bytes, or, for a request, fewer than
-                                        two lengths or fewer than TREE_EDITOR_PATH bytes of path; nothing else was looked at */
+                                        two lengths, fewer than TREE_EDITOR_PATH bytes of path or no place for a second number; nothing
+                                        else was looked at, and nothing at all has changed */
 };
 
 /* The modes of entries. */
@@ -126,6 +128,14 @@ uint8_t tree_editor_request(tree_editor ed, TREE_EDITOR_READ, uint8_t *out, size
                             size_t lens_len);
 /* Answers the open request with the id of the tree that was requested. 14, 13, 10. The write is over when ed->open is 0. */
 uint8_t tree_editor_answer(tree_editor *ed, TREE_EDITOR_STORE, uint64_t *order, size_t order_len, const uint8_t *id, size_t id_len);
+/* Answers the open request and reads the one that is open then, exactly as tree_editor_answer and then tree_editor_request would, with one
+ * check of record and arrays instead of two. Gives the number of the answer, and in next[0] that of the reading: 0 with the request in `out`,
+ * `path` and `lens`; 10 where the write is over, and 11, with the length needed in lens[0], where the answer is made and tree_editor_request
+ * reads the next request; the answer's own number where it is refused. 14, with nothing in next[0], where `id` has not 20 bytes, `path` fewer
+ * than TREE_EDITOR_PATH bytes, `lens` fewer than 2 elements or `next` none. */
+uint8_t tree_editor_answer_and_request(tree_editor *ed, TREE_EDITOR_STORE, uint64_t *order, size_t order_len, const uint8_t *id, size_t id_len,
+                                       uint8_t *out, size_t out_len, uint8_t *path, size_t path_len, size_t *lens, size_t lens_len,
+                                       uint8_t *next, size_t next_len);
 /* Fails the open request: the start tree goes back as it stands, the other taken trees are lost. 13, 10. */
 uint8_t tree_editor_fail(tree_editor *ed, TREE_EDITOR_STORE, TREE_EDITOR_ORDER);
 

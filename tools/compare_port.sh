@@ -4,7 +4,7 @@
 #                                          count (100). The small program has tools/compare_small.sh.
 # 200,000 seeded traces of edits, lookups and cursors (184,000 normal, 16,000 near the limits), 110,000 of writes, every sequence of three
 # calls over three alphabets, every sequence of four over the alphabet of writes. The driver runs as it is, with arrays longer than needed
-# (--roomy) and with probes (--probe), by turns. About twenty minutes of one core.
+# (--roomy), with one call for an answer and the next request (--next) and with probes (--probe), by turns. About twenty minutes of one core.
 # KEEP=DIR in the environment keeps the traces (some gigabytes) and digests of the Rust's answers there; where they stand, the Rust runs only to
 # show a difference. Not to be used again once generator or oracle have changed.
 set -euo pipefail
@@ -17,7 +17,7 @@ counts=target/port-counts
 mkdir -p target
 rm -f $counts-*.json
 [ -z "${KEEP-}" ] || mkdir -p "$KEEP"
-modes=("" --roomy "" --probe)
+modes=("" --roomy --next --probe)
 
 # compare COUNTS WHAT NAME MODE < TRACES
 compare() {

@@ -31,7 +31,7 @@ def split_source(rows):
             open_braces += text.count("{") - text.count("}")
         else:
             code += 1
-            functions += bool(re.match(r"(pub )?(extern \"C\" )?fn ", text))
+            functions += bool(re.match(r"(pub(\(crate\))? )?(extern \"C\" )?fn ", text))
     return contracts, code, functions
 
 

@@ -68,6 +68,13 @@ SLIPS = [
     ("id-without-entry", AFTER, AFTER + "    out_id.at[0] ^= op == GET && number == 0;\n"),
     ("output-behind-length", AFTER, AFTER + "    out.at[op == REQUEST && number == 0 && length_given(0) < out.len ? out.len - 1 : 0] ^= op == REQUEST && number == 0 && length_given(0) < out.len;\n"),
     ("short-output-written", AFTER, AFTER + "    if (op == REQUEST && number == 11 && out.len)\n        out.at[0] = 0;\n"),
+    # one call for an answer and the next request
+    ("request-before-answer", "    case ONWARD: return tree_editor_answer_and_request(&ed, STORE, LENT(id), READ_TO, LENT(out_next));",
+     "    case ONWARD: out_next.at[0] = tree_editor_request(ed, STORE, READ_TO); return tree_editor_answer(&ed, STORE, LENT(id));", "--next"),
+    ("answer-undone-when-short", AFTER, AFTER + "    if (op == ONWARD && number == 0 && out_next.at[0] == 11)\n        restore();\n", "--next"),
+    ("invented-next-length", AFTER, AFTER + "    if (op == ONWARD && out_next.at[0] == 11)\n        ++*(size_t *)(void *)out_lens.at;\n", "--next"),
+    ("second-number-kept-back", AFTER, AFTER + "    if (op == ONWARD)\n        out_next.at[0] = MARK;\n", "--next"),
+    ("place-for-number-not-asked", "        lend(&out_next, 0);", "        lend(&out_next, 1);", "--next", "--probe"),
     # probes
     ("short-array-taken", "        count[k] = need[k] - 1;", "        count[k] = need[k] - (k != ORDER);", "--probe"),
     ("count-not-judged", "        ed.names++, ed_before.names++;\n", "        ed.names += 0, ed_before.names += 0;\n", "--probe"),

@@ -20,7 +20,7 @@ CLAUSES = {
     "editor/edit.rt remove_leaf": "remove-leaf", "editor/below.rt cursor_at": "cursor-at", "editor/below.rt upsert": "upsert-below",
     "editor/below.rt remove": "remove-below", "editor/below.rt remove_leaf": "remove-leaf-below", "writing/begin.rt begin": "begin",
     "writing/begin.rt begin_at": "begin-at", "writing/begin.rt begin_cursor": "begin-cursor", "writing/answer.rt answer": "answer",
-    "writing/fail.rt fail": "fail",
+    "writing/next.rt answer_and_request": "answer-and-request", "writing/fail.rt fail": "fail",
 }
 PARTS = {"editor/edit.rt edited"}
 

@@ -37,19 +37,22 @@ static void print_id(const uint8_t *id) {
     printf("\n");
 }
 
-/* Writes everything: each requested tree is hashed (an adapter would also send it), and its id is the answer. */
+/* Writes everything: each requested tree is hashed (an adapter would also send it), and its id is the answer, which reads the next request. */
 static void write_trees(void) {
     uint8_t id[TREE_EDITOR_ID];
+    uint8_t next;
     size_t lens[2];
     need(tree_editor_begin(&ed, TREE_EDITOR_LENT(&store)), "begin");
-    while (ed.open) {
-        uint8_t number = tree_editor_request(ed, TREE_EDITOR_LENT(&store), out, sizeof out, at, sizeof at, lens, 2);
-        if (number != TREE_EDITOR_DONE) exit(1);
+    next = tree_editor_request(ed, TREE_EDITOR_LENT(&store), out, sizeof out, at, sizeof at, lens, 2);
+    while (next == TREE_EDITOR_DONE) {
         git_id(id, "tree", out, lens[0]);
         printf("tree '%.*s', %zu bytes: ", (int)lens[1], (const char *)at, lens[0]);
         print_id(id);
-        if (tree_editor_answer(&ed, TREE_EDITOR_LENT(&store), id, sizeof id) != TREE_EDITOR_DONE) exit(1);
+        if (tree_editor_answer_and_request(&ed, TREE_EDITOR_LENT(&store), id, sizeof id, out, sizeof out, at, sizeof at, lens, 2, &next, 1) !=
+            TREE_EDITOR_DONE)
+            exit(1);
     }
+    if (ed.open) exit(1);
 }
 
 int main(void) {

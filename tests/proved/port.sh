@@ -5,7 +5,7 @@ set -euo pipefail
 cd "$(dirname "$0")/../.."
 library=$(tools/library.sh)
 driver/build.sh "$library"
-for mode in "" --roomy --probe; do
+for mode in "" --roomy --probe --next "--next --probe"; do
   python3 tools/compare_traces.py --quiet --need 0,1,2,3,4,5,6,7,8,9,10,11,12,13,none \
     --replay tests/data/oracle-answers.txt -- target/driver/trace $mode
 done
@@ -13,7 +13,7 @@ for case in case-1-2 case-{3..10} case-11-first case-11-second case-12 edge-{nam
   grep -qx "trace $case" tests/data/oracle-answers.txt || { echo "$case is not among the recorded answers"; exit 1; }
 done
 python3 tools/driver_slips.py --library "$library" tree-for-file path-cut first-answer-for-all damaged-as-not-found refusal-changes-spare-byte \
-  byte-before count-off short-array-taken
+  byte-before count-off short-array-taken request-before-answer answer-undone-when-short
 if ! command -v cargo > /dev/null; then
   echo "no cargo: no fresh comparison with the Rust"
   exit 0
@@ -23,5 +23,7 @@ for kind in normal:200 write:200 limits:20; do
   python3 tools/traces.py --kind "${kind%:*}" --seed 3 --count "${kind#*:}" --length 20 |
     python3 tools/compare_traces.py --quiet - -- oracle/target/release/oracle-trace -- target/driver/trace
 done
-python3 tools/enumerate_traces.py --alphabet writes --start cached --length 2 |
-  python3 tools/compare_traces.py --quiet - -- oracle/target/release/oracle-trace -- target/driver/trace
+for mode in "" --next; do
+  python3 tools/enumerate_traces.py --alphabet writes --start cached --length 2 |
+    python3 tools/compare_traces.py --quiet - -- oracle/target/release/oracle-trace -- target/driver/trace $mode
+done

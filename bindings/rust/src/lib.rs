@@ -342,7 +342,8 @@ impl<'t, S: BorrowMut<Store>> Editor<'t, S> {
         self.finish(out, host)
     }
 
-    /// Begins a write from the root, to be gone through by [`request`](Self::request) and [`answer`](Self::answer).
+    /// Begins a write from the root, to be gone through by [`request`](Self::request) and [`answer`](Self::answer), or, after the first
+    /// request, by [`answer_and_request`](Self::answer_and_request) alone.
     pub fn begin(&mut self) -> Result<(), Error> {
         Error::of(call!(edit tree_editor_begin, self), 0)
     }
@@ -366,6 +367,21 @@ impl<'t, S: BorrowMut<Store>> Editor<'t, S> {
         Error::of(call!(edit tree_editor_answer, self, id.as_ptr(), id.len()), 0)
     }
 
+    /// Answers the open request with its tree's id and reads the next one into an output of any length, with one check of the store for
+    /// both; `None` where the write is over. Where the output is too short, the answer is made, and [`request`](Self::request) reads
+    /// the next request.
+    pub fn answer_and_request<'o>(&mut self, id: Id, raw: &'o mut [u8], path: &'o mut [u8; PATH]) -> Result<Option<Request<'o>>, Error> {
+        let (mut lens, mut next) = ([0; 2], [0; 1]);
+        let number = call!(edit tree_editor_answer_and_request, self, id.as_ptr(), id.len(), raw.as_mut_ptr(), raw.len(),
+            path.as_mut_ptr(), PATH, lens.as_mut_ptr(), 2, next.as_mut_ptr(), 1);
+        Error::of(number, 0)?;
+        if !self.is_open() {
+            return Ok(None);
+        }
+        Error::of(next[0], lens[0])?;
+        Ok(Some(Request { raw: &raw[..lens[0]], path: &path[..lens[1]] }))
+    }
+
     /// Fails the open request: the start tree goes back as it stands, the other taken trees are lost.
     pub fn fail(&mut self) -> Result<(), Error> {
         Error::of(call!(edit tree_editor_fail, self), 0)
@@ -382,15 +398,13 @@ impl<'t, S: BorrowMut<Store>> Editor<'t, S> {
     }
 
     fn finish<E>(&mut self, out: &mut Output, mut host: impl FnMut(&[u8], &[u8]) -> Result<Id, E>) -> Result<Id, WriteError<E>> {
+        let mut asked = self.request(&mut out.raw, &mut out.path).map_err(WriteError::Refused)?;
         loop {
-            let asked = self.request(&mut out.raw, &mut out.path).map_err(WriteError::Refused)?;
             match host(asked.path, asked.raw) {
-                Ok(id) => {
-                    self.answer(id).map_err(WriteError::Refused)?;
-                    if !self.is_open() {
-                        return Ok(id);
-                    }
-                }
+                Ok(id) => match self.answer_and_request(id, &mut out.raw, &mut out.path).map_err(WriteError::Refused)? {
+                    Some(next) => asked = next,
+                    None => return Ok(id),
+                },
                 Err(e) => {
                     self.fail().map_err(WriteError::Refused)?;
                     return Err(WriteError::Host(e));

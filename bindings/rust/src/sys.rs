@@ -40,6 +40,8 @@ calls! {
     tree_editor_begin_at(*mut Record; edit, edit; prefix: Bytes, prefix_len: usize) -> u8;
     tree_editor_request(Record; read, read; out: *mut u8, out_len: usize, path: *mut u8, path_len: usize, lens: *mut usize, lens_len: usize) -> u8;
     tree_editor_answer(*mut Record; edit, edit; id: Bytes, id_len: usize) -> u8;
+    tree_editor_answer_and_request(*mut Record; edit, edit; id: Bytes, id_len: usize, out: *mut u8, out_len: usize, path: *mut u8,
+        path_len: usize, lens: *mut usize, lens_len: usize, next: *mut u8, next_len: usize) -> u8;
     tree_editor_fail(*mut Record; edit, read;) -> u8;
     tree_editor_holds(Record; read, read;) -> u8;
 }

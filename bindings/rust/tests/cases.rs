@@ -198,6 +198,24 @@ fn refusals() {
 }
 
 #[test]
+fn an_answer_reads_the_next_request() {
+    let mut ed = pq(["p/f", "q/f", "p/s/f"]);
+    let (mut out, mut path) = (vec![0; 45056], [0; 1024]);
+    assert_eq!(ed.answer_and_request(B, &mut out, &mut path), Err(Error::NoWriteOpen));
+    ed.begin().unwrap();
+    assert_eq!(ed.request(&mut out, &mut path).unwrap().path, b"q");
+    // too little room: the answer is made, and the next request stays open
+    assert_eq!(ed.answer_and_request(number(1), &mut out[..3], &mut path), Err(Error::OutputShort { needed: 29 }));
+    assert_eq!(ed.request(&mut out[..29], &mut path).unwrap().path, b"p/s");
+    let asked = ed.answer_and_request(number(2), &mut out, &mut path).unwrap().unwrap();
+    assert_eq!((asked.path, asked.raw), (&b"p"[..], &raw(&[("100644", b"f", B), ("40000", b"s", number(2))])[..]));
+    let asked = ed.answer_and_request(number(3), &mut out, &mut path).unwrap().unwrap();
+    assert_eq!((asked.path, asked.raw), (&b""[..], &raw(&[("40000", b"p", number(3)), ("40000", b"q", number(1))])[..]));
+    assert_eq!(ed.answer_and_request(number(4), &mut out, &mut path), Ok(None));
+    assert!(!ed.is_open() && ed.holds());
+}
+
+#[test]
 fn a_cursor_writes_its_own_tree() {
     let mut store = Store::new();
     let mut ed = Editor::new(&mut store, b"", Table::default()).unwrap();

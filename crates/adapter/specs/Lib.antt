@@ -1,3 +1,2 @@
 -- Definitions that the contracts of `adapter` cite.
-pub mod Asks
 pub mod Reads

@@ -3,6 +3,7 @@ ghost use Rattle.model.specs.Editor.{fromRoot, fromCursor};
 ghost use Rattle.model.specs.Formats.{sha1};
 ghost use Rattle.model.specs.Write.{begun, failed};
 ghost use Rattle.editor.specs.Lent.{lent, Does};
+ghost use Rattle.numbered.specs.Asks.{slices, AnswersAndAsks};
 ghost use Rattle.numbered.specs.Numbers.{Numbers, answerBy};
 use slots::Editor;
 
@@ -61,6 +62,45 @@ pub extern "C" fn tree_editor_answer(
         (lent (now (ed .exit)) (now (plens .exit)) (now (paths .exit)) (now (tlens .exit)) (now (trees .exit)) (now (order .exit))) ⌝ }
 {
     let d = numbered::write::answer(*ed, plens, paths, tlens, trees, order, id);
+    *ed = d.ed;
+    d.code
+}
+
+// Answers the open request, and reads the one that is open then to the fronts of the slices, with the number of the reading: 14 where the id has not
+// 20 bytes, or where there is no room.
+#[no_mangle]
+pub extern "C" fn tree_editor_answer_and_request(
+    ed: &mut Editor,
+    plens: &mut [u64],
+    paths: &mut [u8],
+    tlens: &mut [u64],
+    trees: &mut [u8],
+    order: &mut [u64],
+    id: &[u8],
+    out: &mut [u8],
+    path: &mut [u8],
+    lens: &mut [usize],
+    next: &mut [u8],
+) -> u8
+    ensures { λ r. ⌜ AnswersAndAsks (now (id .entry))
+        (lent (now (ed .entry)) (now (plens .entry)) (now (paths .entry)) (now (tlens .entry)) (now (trees .entry)) (now (order .entry)))
+        (slices (now (out .entry)) (now (path .entry)) (now (lens .entry))) (now (next .entry)) r
+        (lent (now (ed .exit)) (now (plens .exit)) (now (paths .exit)) (now (tlens .exit)) (now (trees .exit)) (now (order .exit)))
+        (slices (now (out .exit)) (now (path .exit)) (now (lens .exit))) (now (next .exit)) ⌝ }
+{
+    let d = numbered::next::answer_and_request(
+        *ed,
+        plens,
+        paths,
+        tlens,
+        trees,
+        order,
+        id,
+        out,
+        path,
+        lens,
+        next,
+    );
     *ed = d.ed;
     d.code
 }

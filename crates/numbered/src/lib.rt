@@ -2,7 +2,9 @@
 use slots::Editor;
 
 pub mod edit;
+pub mod next;
 pub mod root;
+pub mod told;
 pub mod write;
 
 // What a call answers: its number, and the record then.

@@ -104,7 +104,7 @@ unfolding cursorAt
 place-path p = take-append-seam p _
 
 -- what the host has from one reading
-reads-is : (s : Lent) (r : List Request) → Good s → Reads s r → r ≡ asRequest (requested (viewed s)) []
+pub reads-is : (s : Lent) (r : List Request) → Good s → Reads s r → r ≡ asRequest (requested (viewed s)) []
 reads-is s r g x = x .gives ∙ go (requested (viewed s)) refl
   where
     d : Good s × Shows (λ m. show m (viewed s)) (x .code) (x .len) (x .before) (x .after) × (x .place ≡ cursorAt (placeIn (show (length (x .before)) (viewed s)) (requested (viewed s))))

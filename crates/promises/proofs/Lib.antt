@@ -2,6 +2,7 @@
 pub mod Accepted
 pub mod AnyOrder
 pub mod OneAnswer
+pub mod OneNext
 pub mod OneRequest
 pub mod SameCounts
 pub mod Theorems

@@ -43,7 +43,7 @@ use Rattle.editor.specs.declared.cursor.Cursor.{Cursor}
 use Rattle.editor.proofs.Decided.{Same, same-look, same-does, same-makes}
 use Rattle.editor.proofs.LookLaws.{refusalOf, looked-low}
 use Rattle.writing.proofs.Theorems.{viewed-valid}
-use Rattle.promises.specs.Public.{Call, does, Public, new, call, Says, Opens, set-root, upsert, remove, remove-leaf, cursor-at, upsert-below, remove-below, remove-leaf-below, begin, begin-at, begin-cursor, answer, fail}
+use Rattle.promises.specs.Public.{Call, does, Public, new, call, Says, Opens, set-root, upsert, remove, remove-leaf, cursor-at, upsert-below, remove-below, remove-leaf-below, begin, begin-at, begin-cursor, answer, answer-and-request, fail}
 
 -- ---- the number decides the case
 
@@ -184,6 +184,7 @@ not-11 begin E v = begun-not fromRoot E
 not-11 (begin-at prefix) E v = begun-not (fromCursor prefix) E
 not-11 (begin-cursor cursor) E v = begun-not (fromCursor (prefixOf cursor)) E
 not-11 (answer id) E v = answered-of (idBytes id) (E .cached) (E .writing)
+not-11 (answer-and-request id) E v = answered-of (idBytes id) (E .cached) (E .writing)
 not-11 fail E v = failed-of (E .cached) (E .writing)
 
 -- the theorem, for each of the calls

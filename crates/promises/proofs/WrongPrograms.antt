@@ -1,31 +1,40 @@
 -- Programs that do nothing of use, and that the bare words of a demand might let through: none of them meets the statements, since from stores that hold a small editor each statement computes to one answer. Assumes nothing.
-use Prim.Native.Nat.{ℕ}
+use Prim.Native.Nat.{ℕ, _≤_}
 use mathlib.Core.Path.{_≡_, refl, sym, ap, ap₂, _∙_}
 use mathlib.Core.List.{List, [], _∷_, map}
-use mathlib.Core.Option.{none, some}
+use mathlib.Core.Option.{Option, none, some}
 use native.Mathlib.Omega.{arith}
 use lib.ListN.{length, replicate}
 use Rattle.model.specs.Tree.{isTree, null, goodName, wellFormed, Entry}
-use Rattle.model.specs.Raw.{octal, modeOf, rawEntry, nameFrom, got, ended as atEnd, readTree}
+use Rattle.model.specs.Raw.{octal, modeOf, rawEntry, rawTree, nameFrom, got, ended as atEnd, readTree}
 use Rattle.model.specs.Paths.{refused, validPath}
 use Rattle.model.specs.Table.{goodTable, lookedUp}
-use Rattle.model.specs.Editor.{startPath, fits, _↝_, fromRoot, treeAt}
+use Rattle.model.specs.Bytes.{Bytes}
+use Rattle.model.specs.Editor.{Held, startPath, fits, _↝_, fromRoot, treeAt}
 use Rattle.model.specs.Editor.{Editor as Model}
 use Rattle.model.specs.Formats.{sha1}
 use Rattle.model.specs.Walk.{through, toRemove, removed, atLast, atEarlier, turn, load, enter, ended, stepped, below, turned}
 use Rattle.model.specs.Calls.{Answer, refuseIf, settled, edited, opened, rootOnly, rooted, setRoot}
 use Rattle.model.specs.Lookup.{Looked, lookOn, looked, found, missing}
 use Rattle.model.specs.Write.{unlinked, linked, finished, taken, noTree, asking, writeOf, begunAt, begun, closed, answeredIn, answered, failed, requested}
+use Rattle.model.specs.Written.{asRequest}
 use Rattle.model.specs.Script.{no#, file, folder}
 use Rattle.model.specs.Order.{idle}
 use Rattle.model.proofs.Basics.{some-none}
+use Rattle.model.proofs.Theorems.{output-short}
+use Rattle.edits.specs.Answers.{codeNumber}
 use Rattle.edits.specs.Ids.{wordBytes, idBytes}
+use Rattle.edits.specs.declared.code.Code.{Code}
 use Rattle.editor.specs.Lent.{Lent, Long, Good, viewed, Does}
 use Rattle.editor.specs.Looks.{Looks}
 use Rattle.editor.specs.Roots.{Roots}
+use Rattle.editor.specs.declared.cursor.Cursor.{Cursor}
+use Rattle.writing.specs.Requests.{shownNumber}
 use Rattle.promises.specs.Examples.{a, first, put-a, put-ab, script}
-use Rattle.promises.specs.Public.{Call, does, new, call, Says, Made, begin, answer}
+use Rattle.promises.specs.Public.{Call, does, new, call, Says, Made, Proceeds, begin, answer}
+use Rattle.promises.specs.Runs.{given}
 use Rattle.promises.proofs.Accepted.{all-accepted}
+use Rattle.promises.proofs.AnyOrder.{reads-is}
 
 -- the definitions that the computing looks through
 computing : Unit {0}
@@ -164,16 +173,50 @@ answered-a : does (answer first) open-at-a ≡ record { code = 0; editor = open-
 unfolding computing open-at-a open-at-root
 answered-a = refl
 
+root-long : length (rawTree (folder a (no# 1) ∷ [])) ≡ 28
+unfolding computing
+root-long = refl
+
+-- a write of an empty root with `a/b` put into it, and what the first answer leaves
+module _ (s t : Lent) (ns : List ℕ) (g : Good s) (v : viewed s ≡ rootOnly []) (m : Made (map call (put-ab ∷ begin ∷ [])) ns s t) where
+  at-a : viewed t ≡ open-at-a
+  at-a = follow (put-ab ∷ begin ∷ []) ns s t (rootOnly []) g v m .1 ∙ written-ab
+
+  at-root : (c : ℕ) (q : Lent) → Says (call (answer first)) t c q → _≡_ {A = Answer} (record { code = c; editor = viewed q }) (record { code = 0; editor = open-at-root }) × Good q
+  at-root c q d =
+      let h : Good t = all-accepted (map call (put-ab ∷ begin ∷ [])) ns s t m g .1 in
+      let (e, k) = does-model (answer first) t c q h d in
+      (e ∙ ap (does (answer first)) at-a ∙ answered-a, k)
+
 -- from an empty root with `a/b` put into it: first `a` is requested, and after its answer the root with that answer, so that the write is still open
 pub no-pretender : (s t q : Lent) (ns : List ℕ) (c : ℕ) → Good s → viewed s ≡ rootOnly [] → Made (map call (put-ab ∷ begin ∷ [])) ns s t → Says (call (answer first)) t c q →
     (requested (viewed t) ≡ some (a ↝ (file (98 ∷ []) ∷ []))) × (requested (viewed q) ≡ some ([] ↝ (folder a (no# 1) ∷ []))) × (viewed q .writing ≡ none → ⊥)
-no-pretender s t q ns c g v m d = (ap requested w ∙ asks-a, ap requested z ∙ asks-root, λ e. still-open (sym (ap (λ (E : Model). E .writing) z) ∙ e))
+no-pretender s t q ns c g v m d = (ap requested (at-a s t ns g v m) ∙ asks-a, ap requested z ∙ asks-root, λ e. still-open (sym (ap (λ (E : Model). E .writing) z) ∙ e))
   where
-    w : viewed t ≡ open-at-a
-    w = follow (put-ab ∷ begin ∷ []) ns s t (rootOnly []) g v m .1 ∙ written-ab
-
-    h : Good t
-    h = all-accepted (map call (put-ab ∷ begin ∷ [])) ns s t m g .1
-
     z : viewed q ≡ open-at-root
-    z = ap (λ (y : Answer). y .editor) (does-model (answer first) t c q h d .0 ∙ ap (does (answer first)) w ∙ answered-a)
+    z = ap (λ (y : Answer). y .editor) (at-root s t ns g v m c q d .0)
+
+-- ---- an answer that reads the next request, but not the next one, or that is not made where there is no room to read
+
+module _ (s t q : Lent) (ns : List ℕ) (g : Good s) (v : viewed s ≡ rootOnly []) (made : Made (map call (put-ab ∷ begin ∷ [])) ns s t)
+    (k m : Code) (n : ℕ) (p : Cursor) (before after : Bytes) (x : Proceeds first t k q m n p before after) where
+  left : _≡_ {A = Answer} (record { code = codeNumber k; editor = viewed q }) (record { code = 0; editor = open-at-root })
+  left = at-root s t ns g v made (codeNumber k) q (x .store) .0
+
+  good : Good q
+  good = at-root s t ns g v made (codeNumber k) q (x .store) .1
+
+  asks : requested (viewed q) ≡ some ([] ↝ (folder a (no# 1) ∷ []))
+  asks = ap (λ (y : Answer). requested (y .editor)) left ∙ asks-root
+
+  -- the answer to `a` reads the root with that answer, and not `a` again
+  pub no-repeater : 45056 ≤ length before → given m n p after ≡ ([], rawTree (folder a (no# 1) ∷ [])) ∷ []
+  no-repeater l =
+      reads-is q (given m n p after) good (record { code = m; len = n; place = p; before = before; after = after; room = l; asked = x .request; gives = refl })
+      ∙ ap (λ (o : Option Held). asRequest o []) asks
+
+  -- it is made where the output is empty too: the root is requested, with 11
+  pub no-skipper : length before ≡ 0 → (codeNumber k ≡ 0) × (codeNumber m ≡ 11) × (requested (viewed q) ≡ some ([] ↝ (folder a (no# 1) ∷ [])))
+  no-skipper l =
+      let u = output-short (viewed q) (length before) ([] ↝ (folder a (no# 1) ∷ [])) asks (omega (arith, l, root-long)) in
+      (ap (λ (y : Answer). y .code) left, x .request .done (λ z. x .request .refused z .0 good) .1 .number ∙ ap shownNumber u, asks)

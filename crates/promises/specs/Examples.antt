@@ -6,7 +6,7 @@ use Rattle.model.specs.Script.{noTable}
 use Rattle.names.specs.declared.mode.EntryKind.the-variants.{Blob}
 use Rattle.edits.specs.declared.id.Id.{Id}
 use Rattle.editor.specs.declared.cursor.Cursor.{Cursor}
-use Rattle.promises.specs.Public.{Call, set-root, upsert, remove, remove-leaf, cursor-at, upsert-below, remove-below, remove-leaf-below, begin, begin-at, begin-cursor, answer, fail}
+use Rattle.promises.specs.Public.{Call, set-root, upsert, remove, remove-leaf, cursor-at, upsert-below, remove-below, remove-leaf-below, begin, begin-at, begin-cursor, answer, answer-and-request, fail}
 
 -- the id of twenty bytes 17, and of 19 zeros and a one
 abbrev pub seventeen : Id
@@ -37,4 +37,4 @@ abbrev pub script : List Call
 script =
     put-ab ∷ remove noTable (120 ∷ []) ∷ remove-leaf noTable (121 ∷ []) ∷ cursor-at noTable (100 ∷ []) ∷ upsert-below noTable at-d Blob seventeen (101 ∷ [])
     ∷ remove-below noTable at-d (120 ∷ []) ∷ remove-leaf-below noTable at-d (121 ∷ []) ∷ begin ∷ answer first ∷ answer first ∷ answer first
-    ∷ begin-at [] ∷ fail ∷ begin-cursor at-root ∷ fail ∷ set-root [] ∷ []
+    ∷ begin-at [] ∷ fail ∷ begin-cursor at-root ∷ answer-and-request first ∷ set-root [] ∷ []

@@ -21,9 +21,10 @@ use Rattle.editor.specs.Lent.{Lent, Does}
 use Rattle.editor.specs.Looks.{prefixOf, cursorAt}
 use Rattle.editor.specs.Roots.{Makes}
 use Rattle.editor.specs.declared.cursor.Cursor.{Cursor}
+use Rattle.writing.specs.Requests.{Requests}
 
 -- `editor`: root::set_root; edit::upsert, edit::remove, edit::remove_leaf; below::cursor_at; below::upsert, below::remove, below::remove_leaf;
--- `writing`: begin::begin, begin::begin_at, begin::begin_cursor; answer::answer; fail::fail
+-- `writing`: begin::begin, begin::begin_at, begin::begin_cursor; answer::answer; next::answer_and_request; fail::fail
 pub data Call : Type 0 where
   set-root : Bytes → Call
   upsert : Table → EntryKind → Id → Bytes → Call
@@ -33,7 +34,7 @@ pub data Call : Type 0 where
   begin : Call
   begin-at : Bytes → Call
   begin-cursor : Cursor → Call
-  answer : Id → Call
+  answer answer-and-request : Id → Call
   fail : Call
 
 -- what the contract says that the call does to the editor that is held
@@ -50,6 +51,7 @@ does begin = write.begun sha1 fromRoot
 does (begin-at prefix) = write.begun sha1 (fromCursor prefix)
 does (begin-cursor cursor) = write.begun sha1 (fromCursor (prefixOf cursor))
 does (answer id) = write.answered sha1 (idBytes id)
+does (answer-and-request id) = write.answered sha1 (idBytes id)
 does fail = write.failed
 
 -- with root::new these are all
@@ -74,3 +76,8 @@ pub record Opens (T : Table) (path : Bytes) (s : Lent) (k : Code) (q : Lent) (cu
   pub store : Does (model.opened sha1 T path) s (codeNumber k) q
   pub there : codeNumber k ≡ 0 → cursor ≡ cursorAt path
   pub root : (codeNumber k ≡ 0 → ⊥) → cursor ≡ cursorAt []
+
+-- an answer that reads the next request gives that too: it is the request of the store that the answer leaves
+pub record Proceeds (id : Id) (s : Lent) (k : Code) (q : Lent) (next : Code) (n : ℕ) (place : Cursor) (before after : Bytes) : Type 0 where
+  pub store : Does (write.answered sha1 (idBytes id)) s (codeNumber k) q
+  pub request : Requests q next n place before after

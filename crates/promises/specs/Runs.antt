@@ -16,9 +16,11 @@ use Rattle.model.specs.Written.{Request}
 use Rattle.model.specs.Order.{All, Upsert}
 use Rattle.edits.specs.Answers.{codeNumber}
 use Rattle.edits.specs.declared.code.Code.{Code}
+use Rattle.edits.specs.declared.id.Id.{Id}
 use Rattle.editor.specs.Lent.{Lent, Does}
 use Rattle.editor.specs.declared.cursor.Cursor.{Cursor}
 use Rattle.writing.specs.Requests.{Requests}
+use Rattle.promises.specs.Public.{Proceeds}
 
 -- upserts with one table, made one after the other by the public call (its kind and id are the model's mode and bytes: `asMode kind`, `idBytes id`), and the numbers
 -- that it answered
@@ -50,6 +52,17 @@ pub record Reads (s : Lent) (r : List Request) : Type 0 where
 abbrev pub Asks : List Bytes → Lent → List Request → Type 0
 Asks [] s rs = Reads s rs
 Asks (i ∷ is) s rs = (r : List Request) × Reads s r × (c : ℕ) × (t : Lent) × Does (answered sha1 i) s c t × (rest : List Request) × Asks is t rest × (rs ≡ r ++ rest)
+
+-- the host answers the request of the store s by the call that reads the next one too, which leaves the store t, and has r from it
+pub record Goes (id : Id) (s t : Lent) (r : List Request) : Type 0 where
+  pub code : Code
+  pub reads : Reads t r
+  pub made : Proceeds id s code t (reads .code) (reads .len) (reads .place) (reads .before) (reads .after)
+
+-- it does so with these ids one after the other; these are the requests that it has
+abbrev pub Nexts : List Id → Lent → List Request → Type 0
+Nexts [] s rs = rs ≡ []
+Nexts (i ∷ is) s rs = (t : Lent) × (r : List Request) × Goes i s t r × (rest : List Request) × Nexts is t rest × (rs ≡ r ++ rest)
 
 -- a write from a start, with these ids answered, and the requests that the host has; none where begin is refused
 pub record Writes (is : List Bytes) (start : Start) (s : Lent) (rs : List Request) : Type 0 where

@@ -8,7 +8,7 @@ ghost use Rattle.model.specs.Formats.{sha1};
 ghost use Rattle.model.specs.Write.{answered};
 ghost use Rattle.edits.specs.Answers.{codeNumber};
 ghost use Rattle.edits.specs.Ids.{idBytes};
-ghost use Rattle.editor.specs.Lent.{lent, Does};
+ghost use Rattle.editor.specs.Lent.{lent, Good, Does};
 ghost use Rattle.writing.specs.Steps.{HoldsExactly, Made};
 use editor::root::Answer;
 use edits::code::Code;
@@ -76,8 +76,8 @@ fn answer_held(
     go_on(ed, plens, paths, tlens, trees, order, id)
 }
 
-// Answers the open request with the id of the tree that was requested.
-pub fn answer(
+// An answer over a store that holds an editor: 10 where no write is open, else it is made in the fronts of the slices.
+pub(crate) fn answer_accepted(
     ed: Editor,
     plens: &mut [u64],
     paths: &mut [u8],
@@ -86,15 +86,10 @@ pub fn answer(
     order: &mut [u64],
     id: Id,
 ) -> Answer
+    requires { ⌜ Good (lent ed (now plens) (now paths) (now tlens) (now trees) (now order)) ⌝ }
     ensures { λ r. ⌜ Does (answered sha1 (idBytes id)) (lent ed (now (plens .entry)) (now (paths .entry)) (now (tlens .entry)) (now (trees .entry)) (now (order .entry))) (codeNumber (r .code))
         (lent (r .ed) (now (plens .exit)) (now (paths .exit)) (now (tlens .exit)) (now (trees .exit)) (now (order .exit))) ⌝ }
 {
-    if !store::holds::holds(ed, plens, paths, tlens, trees, order) {
-        return Answer {
-            code: Code::StoreDamaged,
-            ed,
-        };
-    }
     if ed.open == 0 {
         return Answer {
             code: Code::NoWriteOpen,
@@ -114,4 +109,26 @@ pub fn answer(
         code: Code::Done,
         ed: q,
     }
+}
+
+// Answers the open request with the id of the tree that was requested.
+pub fn answer(
+    ed: Editor,
+    plens: &mut [u64],
+    paths: &mut [u8],
+    tlens: &mut [u64],
+    trees: &mut [u8],
+    order: &mut [u64],
+    id: Id,
+) -> Answer
+    ensures { λ r. ⌜ Does (answered sha1 (idBytes id)) (lent ed (now (plens .entry)) (now (paths .entry)) (now (tlens .entry)) (now (trees .entry)) (now (order .entry))) (codeNumber (r .code))
+        (lent (r .ed) (now (plens .exit)) (now (paths .exit)) (now (tlens .exit)) (now (trees .exit)) (now (order .exit))) ⌝ }
+{
+    if !store::holds::holds(ed, plens, paths, tlens, trees, order) {
+        return Answer {
+            code: Code::StoreDamaged,
+            ed,
+        };
+    }
+    answer_accepted(ed, plens, paths, tlens, trees, order, id)
 }

@@ -2,4 +2,5 @@
 pub mod answer;
 pub mod begin;
 pub mod fail;
+pub mod next;
 pub mod request;

@@ -1,8 +1,8 @@
 // Reading the open request.
 ghost use mathlib.Core.Path.{_≡_};
-ghost use mathlib.Core.List.{[]};
+ghost use mathlib.Core.List.{List, []};
 ghost use mathlib.Core.Option.{some};
-ghost use Prim.Native.Nat.{_≤_, _<_};
+ghost use Prim.Native.Nat.{ℕ, _≤_, _<_};
 ghost use lib.ListN.{length};
 ghost use Rattle.model.specs.Editor.{Held};
 ghost use Rattle.model.specs.Editor.{Editor as Model};
@@ -10,7 +10,7 @@ ghost use Rattle.model.specs.Write.{requested, show};
 ghost use Rattle.runs.specs.Runs.{Sound};
 ghost use Rattle.slots.specs.View.{heldAt};
 ghost use Rattle.trees.specs.Trees.{Readable};
-ghost use Rattle.editor.specs.Lent.{lent};
+ghost use Rattle.editor.specs.Lent.{lent, Good};
 ghost use Rattle.editor.specs.Looks.{cursorAt};
 ghost use Rattle.writing.specs.Requests.{placeIn, Shows, Requests};
 use editor::cursor::Cursor;
@@ -25,7 +25,7 @@ pub struct Asked {
 }
 
 // The answer that refuses.
-fn refused(code: Code) -> Asked
+pub(crate) fn refused(code: Code) -> Asked
     ensures { λ r. ⌜ (r .code ≡ code) × (r .len ≡ 0) × (r .at ≡ cursorAt []) ⌝ }
 {
     Asked {
@@ -63,6 +63,32 @@ fn request_held(
     }
 }
 
+// The request over a store that holds an editor: 10 where no write is open. Its order of the taken trees is not looked at.
+pub(crate) fn request_accepted(
+    ed: Editor,
+    plens: &[u64],
+    paths: &[u8],
+    tlens: &[u64],
+    trees: &[u8],
+    out: &mut [u8],
+) -> Asked
+    requires { ⌜ ((order : List ℕ) × Good (lent ed (now plens) (now paths) (now tlens) (now trees) order)) ⌝ }
+    ensures { λ r. ⌜ ((order : List ℕ) → Good (lent ed (now (plens .entry)) (now (paths .entry)) (now (tlens .entry)) (now (trees .entry)) order)
+        → Requests (lent ed (now (plens .entry)) (now (paths .entry)) (now (tlens .entry)) (now (trees .entry)) order) (r .code) (r .len) (r .at) (now (out .entry)) (now (out .exit))) ⌝ }
+{
+    if ed.open == 0 {
+        return refused(Code::NoWriteOpen);
+    }
+    request_held(
+        ed,
+        &plens[..64],
+        &paths[..8192],
+        &tlens[..64],
+        &trees[..38912],
+        out,
+    )
+}
+
 // Writes the raw tree that is requested to the front of the output.
 pub fn request(
     ed: Editor,
@@ -78,15 +104,5 @@ pub fn request(
     if !store::holds::holds(ed, plens, paths, tlens, trees, order) {
         return refused(Code::StoreDamaged);
     }
-    if ed.open == 0 {
-        return refused(Code::NoWriteOpen);
-    }
-    request_held(
-        ed,
-        &plens[..64],
-        &paths[..8192],
-        &tlens[..64],
-        &trees[..38912],
-        out,
-    )
+    request_accepted(ed, plens, paths, tlens, trees, out)
 }

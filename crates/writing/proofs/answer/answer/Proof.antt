@@ -1,28 +1,13 @@
--- `writing::answer::answer` meets its contract: a store that holds no editor and one with no open write are refused, then the answer is made in the fronts. Assumes nothing.
-use mathlib.Core.Path.{sym}
-use lib.Seq.{length-take-le}
+-- `writing::answer::answer` meets its contract: a store that holds no editor is refused, and any other answered. Assumes nothing.
 use borrow.Author.Tests.{not-true, not-false}
 use Rattle.model.specs.Formats.{sha1}
 use Rattle.model.specs.Write.{answered}
 use Rattle.edits.specs.Ids.{idBytes}
-use Rattle.editor.specs.Lent.{Lent, lent, Good}
-use Rattle.editor.proofs.LookLaws.{trees-long}
+use Rattle.editor.specs.Lent.{lent}
 use Rattle.editor.proofs.RootLaws.{refuses-damaged}
-use Rattle.writing.proofs.BackLaws.{made-whole}
-use Rattle.writing.proofs.AnswerLaws.{answer-refused}
-use Rattle.writing.proofs.FailLaws.{front-holds}
 use borrow.Author.Needs.{needs}
 use Rattle.writing.proofs.answer.answer.Statement.{statement}
 use Rattle.writing.proofs.answer.answer.Tie as tie
-
--- the lent store, where it is not refused, and that it holds an editor
-abbrev store : tie.Else2 → Lent
-store c =
-    let a = c .before .before .before .before .before .before .before .before .before .before .before .before .before .before .args in
-    lent (a .ed) (a .plens .now) (a .paths .now) (a .tlens .now) (a .trees .now) (a .order .now)
-
-held : (c : tie.Else2) → Good (store c)
-held c = let e = c .before .before in e .before .holds .ensures .yes (not-false _ (e .if1 .left))
 
 holds-requires : tie.Need-holds-requires
 holds-requires c κs = search needs
@@ -48,6 +33,9 @@ returns c =
     let a = h .before .before .before .before .before .before .before .before .before .before .before .args in
     refuses-damaged (answered sha1 (idBytes (a .id))) (lent (a .ed) (a .plens .now) (a .paths .now) (a .tlens .now) (a .trees .now) (a .order .now)) (h .holds .result) (h .holds .ensures) (not-true _ (c .if1 .taken))
 
+answer-accepted-requires : tie.Need-answer-accepted-requires
+answer-accepted-requires c κs = let e = c .before .before .before .before .before in e .before .holds .ensures .yes (not-false _ (e .if1 .left))
+
 same-length-6 : tie.Need-same-length-6
 same-length-6 c = search needs
 
@@ -64,70 +52,7 @@ same-length-10 : tie.Need-same-length-10
 same-length-10 c = search needs
 
 returns-2 : tie.Need-returns-2
-returns-2 c =
-    let e = c .before .before in
-    let h = e .before in
-    let a = h .before .before .before .before .before .before .before .before .before .before .before .args in
-    answer-refused (idBytes (a .id)) (lent (a .ed) (a .plens .now) (a .paths .now) (a .tlens .now) (a .trees .now) (a .order .now)) (h .holds .ensures .yes (not-false _ (e .if1 .left))) (c .if2 .taken)
-
-slice-relend-prefix-answer-held : tie.Need-slice-relend-prefix-answer-held
-slice-relend-prefix-answer-held c = held (c) .plens-room
-
-slice-aggregate-answer-held : tie.Need-slice-aggregate-answer-held
-slice-aggregate-answer-held c = sym (length-take-le 64 (store (c .before) .plens) (held (c .before) .plens-room))
-
-slice-relend-prefix-answer-held-2 : tie.Need-slice-relend-prefix-answer-held-2
-slice-relend-prefix-answer-held-2 c = held (c .before) .paths-room
-
-slice-aggregate-answer-held-2 : tie.Need-slice-aggregate-answer-held-2
-slice-aggregate-answer-held-2 c = sym (length-take-le 8192 (store (c .before .before) .paths) (held (c .before .before) .paths-room))
-
-slice-relend-prefix-answer-held-3 : tie.Need-slice-relend-prefix-answer-held-3
-slice-relend-prefix-answer-held-3 c = held (c .before .before) .tlens-room
-
-slice-aggregate-answer-held-3 : tie.Need-slice-aggregate-answer-held-3
-slice-aggregate-answer-held-3 c = sym (length-take-le 64 (store (c .before .before .before) .tlens) (held (c .before .before .before) .tlens-room))
-
-slice-relend-prefix-answer-held-4 : tie.Need-slice-relend-prefix-answer-held-4
-slice-relend-prefix-answer-held-4 c = let s = store (c .before .before .before) in trees-long (s .ed) (s .plens) (s .paths) (s .tlens) (s .trees) (s .order) (held (c .before .before .before))
-
-slice-aggregate-answer-held-4 : tie.Need-slice-aggregate-answer-held-4
-slice-aggregate-answer-held-4 c = sym (length-take-le 38912 (store (c .before .before .before .before) .trees) (let s = store (c .before .before .before .before) in trees-long (s .ed) (s .plens) (s .paths) (s .tlens) (s .trees) (s .order) (held (c .before .before .before .before))))
-
-slice-relend-prefix-answer-held-5 : tie.Need-slice-relend-prefix-answer-held-5
-slice-relend-prefix-answer-held-5 c = held (c .before .before .before .before) .order-room
-
-slice-aggregate-answer-held-5 : tie.Need-slice-aggregate-answer-held-5
-slice-aggregate-answer-held-5 c = sym (length-take-le 64 (store (c .before .before .before .before .before) .order) (held (c .before .before .before .before .before) .order-room))
-
-answer-held-requires : tie.Need-answer-held-requires
-answer-held-requires c κs =
-    let e = c .before .before .before .before .before in
-    (front-holds (store e) (held e), e .if2 .left)
-
-same-length-11 : tie.Need-same-length-11
-same-length-11 c = search needs
-
-same-length-12 : tie.Need-same-length-12
-same-length-12 c = search needs
-
-same-length-13 : tie.Need-same-length-13
-same-length-13 c = search needs
-
-same-length-14 : tie.Need-same-length-14
-same-length-14 c = search needs
-
-same-length-15 : tie.Need-same-length-15
-same-length-15 c = search needs
-
-returns-3 : tie.Need-returns-3
-returns-3 c =
-    let r = c .before .before .before .before .before .before .before .before .before .before in
-    let e = r .before .before .before .before .before .before in
-    let a = e .before .before .before .before .before .before .before .before .before .before .before .before .before .before .args in
-    let p = r .answer-held .last .1 in
-    let k = r .answer-held .kept .1 in
-    made-whole (store e) (held e) (r .answer-held .result) (p .0) (p .1 .0) (p .1 .1 .0) (p .1 .1 .1 .0) (p .1 .1 .1 .1 .0) (k .0) (k .1 .0) (k .1 .1 .0) (k .1 .1 .1 .0) (k .1 .1 .1 .1 .0) (answered sha1 (idBytes (a .id))) (r .answer-held .ensures)
+returns-2 c = c .before .before .before .before .before .before .before .before .before .before .answer-accepted .ensures
 
 pub answer-spec : {M : Type 1} → statement M
 answer-spec =
@@ -140,26 +65,10 @@ answer-spec =
     same-length-4
     same-length-5
     returns
+    answer-accepted-requires
     same-length-6
     same-length-7
     same-length-8
     same-length-9
     same-length-10
-    returns-2
-    slice-relend-prefix-answer-held
-    slice-aggregate-answer-held
-    slice-relend-prefix-answer-held-2
-    slice-aggregate-answer-held-2
-    slice-relend-prefix-answer-held-3
-    slice-aggregate-answer-held-3
-    slice-relend-prefix-answer-held-4
-    slice-aggregate-answer-held-4
-    slice-relend-prefix-answer-held-5
-    slice-aggregate-answer-held-5
-    answer-held-requires
-    same-length-11
-    same-length-12
-    same-length-13
-    same-length-14
-    same-length-15
-    returns-3)
+    returns-2)

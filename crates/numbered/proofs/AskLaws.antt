@@ -22,7 +22,7 @@ use Rattle.editor.specs.Looks.{cursorAt, prefixOf}
 use Rattle.editor.specs.declared.cursor.Cursor.{Cursor}
 use Rattle.writing.specs.Requests.{shownAs, shownNumber, shownLength, placeIn, Requests}
 use Rattle.writing.proofs.RequestLaws.{asked-of, brief}
-use Rattle.adapter.specs.Asks.{Slices, slices, readTo, Room, Reads, Asks, shortBy, neededBy, Told}
+use Rattle.numbered.specs.Asks.{Slices, slices, readTo, Room, Reads, Asks, shortBy, neededBy, Told}
 
 -- ---- what the number and the length needed say
 

@@ -1,13 +1,13 @@
--- `adapter::request::told` meets its contract: 11 comes with the length needed, 0 with the place and both lengths, and any other number with nothing. Assumes nothing.
+-- `numbered::told::told` meets its contract: 11 comes with the length needed, 0 with the place and both lengths, and any other number with nothing. Assumes nothing.
 use Prim.Native.Nat.{_≤_}
 use mathlib.Core.Path.{_≡_, sym}
 use lib.ListN.{length}
 use lib.Seq.{length-take-le}
 use native.Mathlib.Omega.{arith}
-use Rattle.adapter.proofs.AskLaws.{told-lacks, told-other, told-done}
+use Rattle.numbered.proofs.AskLaws.{told-lacks, told-other, told-done}
 use borrow.Author.Needs.{needs}
-use Rattle.adapter.proofs.request.told.Statement.{statement}
-use Rattle.adapter.proofs.request.told.Tie as tie
+use Rattle.numbered.proofs.told.told.Statement.{statement}
+use Rattle.numbered.proofs.told.told.Tie as tie
 
 number-requires : tie.Need-number-requires
 number-requires c κs = search needs
