@@ -10,6 +10,8 @@ use tree_editor::{Editor, EntryKind, Output, Store, Table};
 pub struct Ours {
     ed: Editor<'static, Box<Store>>,
     out: Box<Output>,
+    raw: Vec<u8>,
+    path: [u8; 1024],
     raws: Vec<u8>,
 }
 pub struct Theirs {
@@ -82,7 +84,7 @@ fn no_objects() -> &'static Objects {
 
 fn editor(root: &[u8], objects: &'static Objects) -> Ours {
     let table = Table { ids: &objects.ids, ends: &objects.ends, raws: &objects.raws };
-    Ours { ed: Editor::new(Box::default(), root, table).unwrap(), out: Box::default(), raws: Vec::with_capacity(200_000) }
+    Ours { ed: Editor::new(Box::default(), root, table).unwrap(), out: Box::default(), raw: vec![0; 45056], path: [0; 1024], raws: Vec::with_capacity(200_000) }
 }
 fn original(root: &[u8], objects: &'static Objects) -> Theirs {
     let entries = gix_object::tree::decode(root, gix_object::tree::Strict::Document01).unwrap();
@@ -112,7 +114,7 @@ fn their_lookups(s: &mut Theirs, paths: &[Vec<u8>]) {
 }
 /// The whole write; each raw tree is put behind the earlier ones, and request k is answered with k.
 fn our_write(s: &mut Ours) {
-    let Ours { ed, out, raws } = s;
+    let Ours { ed, out, raws, .. } = s;
     let mut k = 0;
     ed.write(out, |_, raw| {
         k += 1;
@@ -120,6 +122,17 @@ fn our_write(s: &mut Ours) {
         Ok::<_, ()>(id(k))
     })
     .unwrap();
+}
+/// The same by two calls for each tree, with a check of the store in each.
+fn our_write_by_two(s: &mut Ours) {
+    let Ours { ed, raw, path, raws, .. } = s;
+    ed.begin().unwrap();
+    let mut k = 0;
+    while ed.is_open() {
+        k += 1;
+        raws.extend_from_slice(ed.request(raw, path).unwrap().raw);
+        ed.answer(id(k)).unwrap();
+    }
 }
 fn their_write(s: &mut Theirs) {
     let Theirs { ed, raws } = s;
@@ -145,7 +158,7 @@ fn ours_after(mut s: Ours, paths: &[Vec<u8>]) -> Ready {
     s.ed
 }
 fn copy(ed: &Ready) -> Ours {
-    Ours { ed: ed.clone(), out: Box::default(), raws: Vec::with_capacity(200_000) }
+    Ours { ed: ed.clone(), out: Box::default(), raw: vec![0; 45056], path: [0; 1024], raws: Vec::with_capacity(200_000) }
 }
 kept!(after_thirty: Ready = ours_after(editor(NOTHING, no_objects()), thirty()));
 kept!(after_many: Ready = ours_after(editor(NOTHING, no_objects()), many()));
@@ -203,6 +216,9 @@ pieces! {
         original(NOTHING, no_objects()); |s| their_upserts(s, one_folder());
     "the write of 61 trees with 960 files", true, w_ours_write, w_theirs_write:
         copy(after_many()); our_write;
+        theirs_after(original(NOTHING, no_objects()), many()); their_write;
+    "the same write by requests and answers in calls of their own", true, w_ours_write_by_two, w_theirs_write_again:
+        copy(after_many()); our_write_by_two;
         theirs_after(original(NOTHING, no_objects()), many()); their_write;
     "the write of 2 trees with 30 files", false, w_ours_small_write, w_theirs_small_write:
         copy(after_thirty()); our_write;
@@ -271,8 +287,8 @@ fn w_request(s: &mut Ours, path: &mut [u8; 1024], raw: &mut [u8]) {
 }
 #[inline(never)]
 #[unsafe(no_mangle)]
-fn w_answer(s: &mut Ours, k: usize) {
-    s.ed.answer(id(k)).unwrap();
+fn w_answer_and_request(s: &mut Ours, k: usize, path: &mut [u8; 1024], raw: &mut [u8]) {
+    black_box(s.ed.answer_and_request(id(k), raw, path).unwrap());
 }
 
 /// Where the instructions of single calls and of the write go: its calls one by one, and the check once for each of them.
@@ -283,11 +299,11 @@ pub fn split() {
     let (mut path, mut raw) = ([0; 1024], vec![0; 45056]);
     w_check_write(&s);
     w_begin(&mut s);
+    w_check_write(&s);
+    w_request(&mut s, &mut path, &mut raw);
     for k in 1.. {
         w_check_write(&s);
-        w_request(&mut s, &mut path, &mut raw);
-        w_check_write(&s);
-        w_answer(&mut s, k);
+        w_answer_and_request(&mut s, k, &mut path, &mut raw);
         if !s.ed.is_open() {
             break;
         }
