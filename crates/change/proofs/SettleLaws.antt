@@ -19,9 +19,9 @@ use Rattle.model.specs.Measure.{measure, countsOf}
 use Rattle.model.specs.Calls.{refuseIf, settled}
 use Rattle.model.specs.Valid.{valid}
 use Rattle.model.proofs.Basics.{or-right, not-false}
-use Rattle.model.proofs.FirstPass.{measured-low}
+use Rattle.model.proofs.LowNumbers.{measured-low}
 use Rattle.model.proofs.MeasureRight.{measure-code, measure-kept}
-use Rattle.model.proofs.SecondPass.{fits-of}
+use Rattle.model.proofs.LimitLaws.{fits-of}
 use Rattle.slots.specs.declared.Editor.{Editor}
 use Rattle.slots.specs.View.{viewOf, Laid, Used, pathOf}
 use Rattle.slots.proofs.Relaid.{find-slot}

@@ -25,7 +25,7 @@ use Rattle.model.specs.Calls.{opened as opens}
 use Rattle.model.specs.Valid.{valid}
 use Rattle.model.specs.AllCalls.{GoodEdit}
 use Rattle.model.proofs.EditKeeps.{edited-valid}
-use Rattle.model.proofs.FirstPass.{measured-low}
+use Rattle.model.proofs.LowNumbers.{measured-low}
 use Rattle.model.proofs.MeasureRight.{measure-code}
 use Rattle.runs.specs.Digits.{digits}
 use Rattle.runs.specs.Runs.{cut}

@@ -8,11 +8,10 @@ use native.Mathlib.Omega.{arith}
 use lib.Dec.{eqb, leb}
 use lib.ListN.{length, getD, take, drop, length-append, take-append-drop}
 use lib.Seq.{take-at, drop-cons, length-take-le, take-append-add, take-length}
-use borrow.Author.Tests.{eqb-true, eqb-false, leb-true}
+use borrow.Author.Tests.{eqb-true, leb-true}
 use Rattle.model.specs.Bytes.{Bytes, isNil, has, by}
 use Rattle.model.specs.Paths.{ontoFirst, pieces, components, someLong, join, full, refused}
 use Rattle.model.proofs.Basics.{or-right, not-false}
-use Rattle.model.proofs.ByteLaws.{has-past}
 use Rattle.names.specs.Places.{indexOf, firstPiece}
 use Rattle.names.specs.Splice.{splice}
 use Rattle.names.proofs.PathLaws.{first-slash, pieces-more, pieces-last}
@@ -135,15 +134,6 @@ slash-there (b ∷ bs) h = go (eqb b 47) refl (slash-there bs) h
     go true e ih k = eqb-true b 47 e
     go false e ih k = ih (omega (arith, k))
 
-no-slash-before : (p : Bytes) → has 47 (take (indexOf 47 p) p) ≡ false
-unfolding indexOf
-no-slash-before [] = refl
-no-slash-before (b ∷ bs) = go (eqb b 47) refl (no-slash-before bs)
-  where
-    go : (t : Bool) → eqb b 47 ≡ t → has 47 (take (indexOf 47 bs) bs) ≡ false → has 47 (take (cond t zero (suc (indexOf 47 bs))) (b ∷ bs)) ≡ false
-    go true e ih = refl
-    go false e ih = has-past 47 b (take (indexOf 47 bs) bs) (eqb-false b 47 e) ∙ ih
-
 index-short : (p : Bytes) → indexOf 47 p ≤ length p
 unfolding indexOf
 index-short [] = omega arith
@@ -170,9 +160,6 @@ pieces-some (b ∷ bs) = go (compare b 47) (pieces bs)
 module _ (p : Bytes) (k : ℕ) (e : k ≡ length (firstPiece p)) where
   pub piece-short : k ≤ length p
   piece-short = omega (arith, e, first-slash p, index-short p)
-
-  pub piece-plain : has 47 (take k p) ≡ false
-  piece-plain = ap (λ (n : ℕ). has 47 (take n p)) (e ∙ sym (first-slash p)) ∙ no-slash-before p
 
   pub piece-slash : k < length p → getD p k 0 ≡ 47
   piece-slash h =

@@ -2,5 +2,4 @@ pub mod EditLaws
 pub mod FrontLaws
 pub mod IdLaws
 pub mod LookLaws
-pub mod PassLaws
 pub mod TableLaws

@@ -3,7 +3,6 @@ ghost use mathlib.Core.Path.{_≡_};
 ghost use Prim.Native.Nat.{_+_, _≤_, _<_};
 ghost use lib.ListN.{length, take, drop};
 ghost use Rattle.model.specs.Bytes.{same as sameBytes};
-ghost use Rattle.model.specs.Editor.{Format};
 ghost use Rattle.model.specs.Formats.{sha1};
 ghost use Rattle.edits.specs.Ids.{wordBytes, idBytes};
 

@@ -1,6 +1,6 @@
 // A path below a prefix, as one run of bytes.
 ghost use mathlib.Core.Path.{_≡_};
-ghost use Prim.Native.Nat.{_+_, _≤_, _<_};
+ghost use Prim.Native.Nat.{_≤_, _<_};
 ghost use lib.ListN.{length, take};
 ghost use Rattle.model.specs.Paths.{full};
 ghost use Rattle.edits.specs.Fronts.{lead};

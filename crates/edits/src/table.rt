@@ -1,8 +1,6 @@
 // The object table: ids end to end, one end offset for each object, raw trees end to end.
 ghost use mathlib.Core.Path.{_≡_};
 ghost use mathlib.Core.Bool.{true};
-ghost use lib.ListN.{length};
-ghost use Rattle.model.specs.Bytes.{same};
 ghost use Rattle.model.specs.Table.{endsFrom, goodTable, lookedUp};
 ghost use Rattle.edits.specs.Ids.{idBytes};
 ghost use Rattle.edits.specs.Objects.{tableOf, FoundIn};

@@ -2,12 +2,11 @@
 use mathlib.Core.Path.{_≡_, refl, sym, ap, ap₂, _∙_, subst}
 use mathlib.Core.Bool.{Bool, true, false, not}
 use mathlib.Core.Option.{none, some}
-use mathlib.Core.List.{List, [], _∷_, _++_}
+use mathlib.Core.List.{List, []}
 use Prim.Native.Nat.{ℕ, _+_, _-_, _*_, _≤_, _<_}
 use native.Mathlib.Omega.{arith}
 use native.Mathlib.Nat.{add-mul, mul-le-mul-right}
-use lib.ListN.{length, getD, length-append}
-use lib.Seq.{take-length, drop-length}
+use lib.ListN.{length, getD}
 use Rattle.model.specs.Bytes.{Bytes}
 use Rattle.model.specs.Map.{find, put, del, rising}
 use Rattle.model.specs.Tree.{Mode, Entry, Tree, isTree, key, asKind, withEntry, goodName, nameBytes, wellFormed}
@@ -15,7 +14,7 @@ use Rattle.model.specs.Editor.{Held, at, Cache, fits}
 use Rattle.model.proofs.MapLaws.{put-there, put-put-same}
 use Rattle.model.proofs.SoundTrees.{del-absent}
 use Rattle.model.proofs.RoomCounts.{total-put-old, entries-total, names-total}
-use Rattle.model.proofs.SecondPass.{limits}
+use Rattle.model.proofs.LimitLaws.{limits}
 use Rattle.model.proofs.SwapShared.{well-rising}
 use Rattle.model.proofs.WellFormedLaws.{well-with}
 use Rattle.model.specs.Search.{searched}
@@ -27,14 +26,14 @@ use Rattle.runs.proofs.FindLaws.{cut-at}
 use Rattle.names.specs.Compact.{packed, packedAll, unpack, Run, entryAt, Tells}
 use Rattle.names.specs.Splice.{splice}
 use Rattle.names.specs.declared.compact.Place.{Place}
-use Rattle.names.proofs.CompactLaws.{packed-length, packed-append, packed-cons}
+use Rattle.names.proofs.CompactLaws.{packed-length}
 use Rattle.slots.specs.View.{viewOf, heldAs, Laid, Used, pathOf, treeOf}
 use Rattle.slots.specs.declared.Editor.{Editor}
 use Rattle.slots.proofs.Relaid.{others-with, run-in, with-here, well-unpacked, relaid-view, relaid, find-slot, entries-in, names-in}
 use Rattle.slots.proofs.Calls.{run-length}
 use Rattle.slots.proofs.Counts.{trees-is}
 use Rattle.entries.specs.Entries.{Fresh, Kept, Edited}
-use Rattle.entries.proofs.Laws.{names-append, well-del, missing, not-found, inside, found-entry, marked, bytes-without, one-fewer, names-fewer, bytes-over, as-many, as-long, name-is, set-over, bytes-with, place-in, one-more, names-more, well-put, fresh-then}
+use Rattle.entries.proofs.Laws.{well-del, missing, not-found, inside, found-entry, marked, bytes-without, one-fewer, names-fewer, bytes-over, as-many, as-long, name-is, set-over, bytes-with, place-in, one-more, names-more, well-put, fresh-then}
 
 pub all-kept : (r : Editor) → Kept r r
 all-kept r = record { free = refl; hidden = refl; paths = refl; write = record { «open» = refl; aside = refl; stacked = refl; asked = refl } }
@@ -277,44 +276,3 @@ module _ {w : ℕ} {r q : Editor} {plens paths tlens trees tlens′ trees′ : L
       ap₂ (λ (t : Tree) (c : Cache). fits (put at (heldAs (pathOf plens paths k) t) c)) put-then (first .view)
       ∙ ap fits (put-put-same at (heldAs (pathOf plens paths k) (withEntry the was)) (heldAs (pathOf plens paths k) (del key (asKind (not b) name) was)) (viewOf w r plens paths tlens trees) refl)
       ∙ f
-
-none-packed : packedAll [] ≡ []
-unfolding packedAll
-none-packed = refl
-
--- an entry after the last one
-module _ (w : ℕ) (r : Editor) (plens paths tlens trees : List ℕ) (L : Laid w r plens paths tlens trees) (k : ℕ) (U : Used r k) (a : Entry) (wf : wellFormed w (treeOf w tlens trees k ++ (a ∷ [])) ≡ true) where
-  abbrev now : Tree
-  now = treeOf w tlens trees k
-
-  abbrev last : Bytes
-  last = getD (cut tlens trees) k []
-
-  one : length (now ++ (a ∷ [])) ≡ length now + 1
-  one = length-append now (a ∷ [])
-
-  named : nameBytes (now ++ (a ∷ [])) ≡ nameBytes now + length (a .name)
-  named = omega (arith, names-append now (a ∷ []))
-
-  long : length last ≡ getD tlens k 0
-  long = run-length tlens trees (r .trees) k (L .trees-sound) (omega (arith, L .tlens-64, U .low))
-
-  bytes : (src : Bytes) → src ≡ packed a → inserted last (getD tlens k 0) src ≡ packedAll (now ++ (a ∷ []))
-  bytes src se =
-      ap₂ (λ (m : ℕ) (x : Bytes). inserted last m x) (sym long) se
-      ∙ ap₂ (λ (c d : Bytes). c ++ (packed a ++ d)) (take-length last ∙ L .packed k (U .low)) (drop-length last ∙ sym none-packed)
-      ∙ sym (packed-append now (a ∷ []) ∙ ap (λ (d : Bytes). packedAll now ++ d) (packed-cons a []))
-
-  module _ (f : fits (put at (heldAs (pathOf plens paths k) (now ++ (a ∷ []))) (viewOf w r plens paths tlens trees)) ≡ true) where
-    pub push-room : r .trees + (2 + w + length (a .name)) ≤ length trees
-    push-room = room-then w r plens paths tlens trees L k U (now ++ (a ∷ [])) f (length (a .name)) one named
-
-    pub push-counts : (r .entries ≤ 1024) × (r .names + length (a .name) ≤ 16384)
-    push-counts = (omega (arith, entries-then w r plens paths tlens trees L k U (now ++ (a ∷ [])) f, one), omega (arith, names-then w r plens paths tlens trees L k U (now ++ (a ∷ [])) f, named))
-
-  pub pushing : (src : Bytes) → src ≡ packed a → (q : Editor) (tlens′ trees′ : List ℕ) →
-      cut tlens′ trees′ ≡ withRun k (λ (l : Bytes). inserted l (getD tlens k 0) src) (cut tlens trees) → length tlens′ ≡ length tlens → length trees′ ≡ length trees → Sound tlens′ trees′ (q .trees) →
-      Kept r q → q .entries ≡ r .entries + 1 → q .names ≡ r .names + length (a .name) → Edited w r plens paths tlens trees k (now ++ (a ∷ [])) q tlens′ trees′
-  pushing src es q tlens′ trees′ c tl tb st same ee en =
-      edited w r plens paths tlens trees L k U (now ++ (a ∷ [])) (λ (l : Bytes). inserted l (getD tlens k 0) src) q tlens′ trees′ (bytes src es) wf c same tl tb st
-      (omega (arith, ee, one)) (omega (arith, en, named))

@@ -1,13 +1,12 @@
 // Edits of the tree in a slot.
 ghost use mathlib.Core.Path.{_≡_};
-ghost use mathlib.Core.Bool.{true, not};
+ghost use mathlib.Core.Bool.{true};
 ghost use mathlib.Core.Option.{none};
-ghost use mathlib.Core.List.{[], _∷_, _++_};
-ghost use Prim.Native.Nat.{ℕ, _+_, _≤_, _<_};
+ghost use Prim.Native.Nat.{_+_, _≤_, _<_};
 ghost use lib.ListN.{length, getD};
 ghost use Rattle.model.specs.Bytes.{Bytes};
 ghost use Rattle.model.specs.Map.{find, put, del};
-ghost use Rattle.model.specs.Tree.{isTree, asKind, key, goodName, wellFormed, without, withEntry};
+ghost use Rattle.model.specs.Tree.{isTree, asKind, key, goodName, without, withEntry};
 ghost use Rattle.model.specs.Search.{searched};
 ghost use Rattle.model.specs.Editor.{at, fits};
 ghost use Rattle.names.specs.Answers.{asMode, entry};
@@ -151,40 +150,6 @@ pub fn insert_key(
         id,
         name,
     )
-}
-
-// Puts an entry in after the last one.
-pub fn push(
-    r: Editor,
-    plens: &[u64],
-    paths: &[u8],
-    tlens: &mut [u64],
-    trees: &mut [u8],
-    width: usize,
-    slot: usize,
-    kind: EntryKind,
-    id: &[u8],
-    name: &[u8],
-) -> Editor
-    requires { ⌜ Laid width r (now plens) (now paths) (now tlens) (now trees) × (width ≤ 64) × Used r slot × (length (now id) ≡ width) × (goodName (now name) ≡ true)
-        × (wellFormed width (treeOf width (now tlens) (now trees) slot ++ (entry kind (now name) (now id) ∷ [])) ≡ true)
-        × (fits (put at (heldAs (pathOf (now plens) (now paths) slot) (treeOf width (now tlens) (now trees) slot ++ (entry kind (now name) (now id) ∷ []))) (viewOf width r (now plens) (now paths) (now tlens) (now trees))) ≡ true) ⌝ }
-    ensures { λ q. ⌜ Edited width r (now (plens .entry)) (now (paths .entry)) (now (tlens .entry)) (now (trees .entry)) slot (treeOf width (now (tlens .entry)) (now (trees .entry)) slot ++ (entry kind (now (name .entry)) (now (id .entry)) ∷ [])) q (now (tlens .exit)) (now (trees .exit)) ⌝ }
-{
-    let nt = r.trees;
-    let a = tlens[slot] as usize;
-    let mut buf = [0u8; 321];
-    let byte = names::compact::kind_byte(kind);
-    let n = names::compact::put_entry(&mut buf, byte, id, name);
-    let t = runs::runs::insert(tlens, trees, nt, slot, a, &buf[..n]);
-    let more = r.entries + 1;
-    let bytes = r.names + name.len();
-    Editor {
-        trees: t,
-        entries: more,
-        names: bytes,
-        ..r
-    }
 }
 
 // Writes an entry over as many bytes of a slot's run.

@@ -81,12 +81,6 @@ pub unpacked : (w : ℕ) (t : Tree) → Wide w t → unpack w (packedAll t) ≡ 
 unfolding unpack
 unpacked w t u = unpacked-in (length (packedAll t)) w t u (omega arith)
 
--- and is a run, where the tree's names and ids are good
-pub packed-run : (w : ℕ) (t : Tree) → goodEntries w t ≡ true → Run w (packedAll t)
-packed-run w t g =
-    let e = unpacked w t (wide-good w t g) in
-    record { bytes = ap packedAll (sym e); good = ap (goodEntries w) e ∙ g }
-
 -- ---- an entry where it lies
 
 pub record Here (w : ℕ) (b : Bytes) (i : ℕ) : Type 0 where

@@ -1,7 +1,7 @@
 // A tree in compact form: entries end to end in Git's order, each a kind, the length of its name, its id and its name.
 ghost use mathlib.Core.Path.{_≡_};
 ghost use mathlib.Core.Bool.{true, false, not};
-ghost use Prim.Native.Nat.{ℕ, _+_, _≤_, _<_};
+ghost use Prim.Native.Nat.{_+_, _≤_, _<_};
 ghost use lib.ListN.{length, take, drop};
 ghost use mathlib.Core.List.{_∷_, _++_};
 ghost use Rattle.model.specs.Bytes.{cmp};

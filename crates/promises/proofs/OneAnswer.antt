@@ -23,7 +23,7 @@ use Rattle.model.specs.Calls.{Answer, refuseIf, settled, edited, opened, rooted
 use Rattle.model.specs.Write.{begunAt, begun, answered, failed}
 use Rattle.model.specs.Valid.{valid}
 use Rattle.model.specs.Order.{idle}
-use Rattle.model.proofs.FirstPass.{measured-low}
+use Rattle.model.proofs.LowNumbers.{measured-low}
 use Rattle.model.proofs.MeasureRight.{measure-code}
 use Rattle.model.specs.Lookup.{found, looked}
 use Rattle.names.specs.Answers.{asMode}

@@ -41,16 +41,6 @@ fn line_room(len: usize, at: usize, key: usize, n: usize) -> bool
     2 <= left - n
 }
 
-// Writes a text from a place on.
-pub fn put_text(out: &mut [u8], at: usize, s: &[u8]) -> Put
-    ensures { λ r. ⌜ outcome r (now (out .exit)) ≡ written (now (out .entry)) at (now (s .entry)) ⌝ }
-{
-    if has_room(out.len(), at, s.len()) {
-        return Put::At(names::write::put(out, at, s));
-    }
-    Put::Refused
-}
-
 // The digit for a number below 16.
 fn digit_for(n: u8) -> u8
     requires { ⌜ n < 16 ⌝ }
@@ -75,18 +65,6 @@ fn hex_into(out: &mut [u8], at: usize, bytes: &[u8]) -> usize
     at + 2 * i
 }
 
-// Writes bytes in hex from a place on.
-pub fn put_hex(out: &mut [u8], at: usize, bytes: &[u8]) -> Put
-    ensures { λ r. ⌜ outcome r (now (out .exit)) ≡ written (now (out .entry)) at (hexOf (now (bytes .entry))) ⌝ }
-{
-    if bytes.len() <= out.len() / 2 {
-        if has_room(out.len(), at, 2 * bytes.len()) {
-            return Put::At(hex_into(out, at, bytes));
-        }
-    }
-    Put::Refused
-}
-
 // Puts the digits of a number at the end of the twenty bytes, and gives the place where they start.
 fn decimal_into(digits: &mut [u8; 20], n: u64) -> usize
     requires { ⌜ length (now digits) ≡ 20 ⌝ }
@@ -102,15 +80,6 @@ fn decimal_into(digits: &mut [u8; 20], n: u64) -> usize
     }
     digits[i] = (48 + m) as u8;
     i
-}
-
-// Writes a number in decimal from a place on.
-pub fn put_decimal(out: &mut [u8], at: usize, n: u64) -> Put
-    ensures { λ r. ⌜ outcome r (now (out .exit)) ≡ written (now (out .entry)) at (decimal n) ⌝ }
-{
-    let mut digits = [0u8; 20];
-    let from = decimal_into(&mut digits, n);
-    put_text(out, at, names::part::after(&digits, from))
 }
 
 // Writes a key and the `=` after it, and gives the place after them.

@@ -32,9 +32,6 @@ pub total-within : (l : List ℕ) (i : ℕ) → i < length l → total (take i l
 unfolding total
 total-within l i h = omega (arith, ap total (split-at l i 0 h), total-append (take i l) (getD l i 0 ∷ drop (suc i) l))
 
-pub total-le : (l : List ℕ) (i : ℕ) → total (take i l) ≤ total l
-total-le l i = omega (arith, ap total (take-append-drop i l), total-append (take i l) (drop i l))
-
 -- ---- the view
 
 pub cut-append : (a b x y : List ℕ) → length x ≡ total a → cut (a ++ b) (x ++ y) ≡ cut a x ++ cut b y

@@ -1,7 +1,7 @@
 // The free tree slots, as one 64-bit map: set bits are free slots.
 ghost use mathlib.Core.Path.{_≡_};
 ghost use Prim.Native.Nat.{_+_, _^_, _<_};
-ghost use lib.ListN.{length, getD, set};
+ghost use lib.ListN.{getD, set};
 ghost use lib.Dec.{eqb};
 ghost use Rattle.runs.specs.Digits.{digits, firstSet};
 ghost use Rattle.runs.specs.Runs.{total};

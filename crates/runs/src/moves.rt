@@ -1,8 +1,7 @@
 // Moves of bytes within a lent slice.
 ghost use mathlib.Core.Path.{_≡_};
 ghost use Prim.Native.Nat.{_+_, _-_, _≤_};
-ghost use lib.ListN.{length, take, drop};
-ghost use mathlib.Core.List.{_++_};
+ghost use lib.ListN.{length, take};
 ghost use Rattle.names.specs.Splice.{splice};
 ghost use Rattle.runs.specs.Moves.{part, inserted, removed, over};
 

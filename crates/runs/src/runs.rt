@@ -1,8 +1,8 @@
 // Runs of bytes end to end in a lent slice, with their lengths in another.
 ghost use mathlib.Core.Path.{_≡_};
-ghost use Prim.Native.Nat.{ℕ, _+_, _-_, _*_, _^_, _≤_, _<_};
-ghost use lib.ListN.{length, take, drop, getD, set, replicate};
-ghost use mathlib.Core.List.{List, _++_};
+ghost use Prim.Native.Nat.{ℕ, _+_, _-_, _^_, _≤_, _<_};
+ghost use lib.ListN.{length, take, getD, replicate};
+ghost use mathlib.Core.List.{List};
 ghost use Rattle.runs.specs.Moves.{part, inserted, removed};
 ghost use Rattle.runs.specs.Runs.{total, cut, runOf, withRun, Sound};
 ghost use Rattle.runs.specs.Find.{hit, findFrom};

@@ -14,7 +14,7 @@ use Rattle.model.specs.Tree.{Tree, nameBytes}
 use Rattle.model.specs.Editor.{Held, at, Cache, entryCount, nameCount, pathCount, fits}
 use Rattle.model.proofs.SoundTrees.{total-put-new}
 use Rattle.model.proofs.RoomCounts.{trees-total, paths-total}
-use Rattle.model.proofs.SecondPass.{limits}
+use Rattle.model.proofs.LimitLaws.{limits}
 use Rattle.runs.specs.Digits.{digits, firstSet, skip}
 use Rattle.runs.proofs.DigitLaws.{length-digits}
 use Rattle.runs.specs.Runs.{cut}

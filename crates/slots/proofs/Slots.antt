@@ -20,11 +20,6 @@ front k w ds ps bs = slotsOf w (take k ds) (take k ps) (take k bs)
 abbrev pub back : ℕ → ℕ → List ℕ → List Bytes → List Bytes → List Held
 back k w ds ps bs = slotsOf w (drop (suc k) ds) (drop (suc k) ps) (drop (suc k) bs)
 
--- there are as many paths and runs as digits
-pub record Even (ds : List ℕ) (ps bs : List Bytes) : Type 0 where
-  pub left : length ps ≡ length ds
-  pub right : length bs ≡ length ds
-
 pub ifUsed-append : (d : ℕ) (h : Held) (a b : List Held) → ifUsed d h (a ++ b) ≡ ifUsed d h a ++ b
 ifUsed-append zero h a b = refl
 ifUsed-append (suc d) h a b = refl

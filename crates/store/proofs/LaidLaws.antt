@@ -11,7 +11,7 @@ use Rattle.model.specs.Bytes.{Bytes}
 use Rattle.model.specs.Tree.{nameBytes, distinct}
 use Rattle.model.specs.Editor.{Held, at, Cache, entryCount, nameCount, pathCount, fits}
 use Rattle.model.proofs.RoomCounts.{entries-total, names-total}
-use Rattle.model.proofs.SecondPass.{limits}
+use Rattle.model.proofs.LimitLaws.{limits}
 use Rattle.runs.specs.Digits.{digits}
 use Rattle.runs.specs.Moves.{part}
 use Rattle.runs.specs.Runs.{total, cut, Sound}

@@ -1,9 +1,9 @@
 // Whether the open write of a store, if one is open, is one that can be.
 ghost use mathlib.Core.Path.{_≡_};
 ghost use mathlib.Core.Bool.{true, false, _&&_};
-ghost use Prim.Native.Nat.{ℕ, _+_, _-_, _≤_, _<_};
+ghost use Prim.Native.Nat.{ℕ, _-_, _≤_, _<_};
 ghost use mathlib.Core.List.{List, [], _∷_};
-ghost use lib.ListN.{length, take, drop, getD};
+ghost use lib.ListN.{length, take, getD};
 ghost use lib.Seq.{slice};
 ghost use Rattle.model.specs.Bytes.{Bytes, has};
 ghost use Rattle.model.specs.Map.{find, isSome};

@@ -25,12 +25,6 @@ use Rattle.taken.proofs.Steps.{used-same, open-between}
 
 -- ---- two maps joined
 
-pub length-joined : (g ds : List ℕ) → length (joined g ds) ≡ length ds
-unfolding joined
-length-joined [] ds = refl
-length-joined (x ∷ g) [] = refl
-length-joined (x ∷ g) (d ∷ ds) = ap suc (length-joined g ds)
-
 pub joined-more : (g ds : List ℕ) (k : ℕ) → k < length g → joined (take (suc k) g) ds ≡ markIf (getD g k 0) (joined (take k g) ds) k
 unfolding joined
 joined-more [] ds k h = absurd (omega arith)

@@ -355,16 +355,3 @@ module _ (r : Editor) (k : ℕ) (e : r .hidden ≡ r .free) (u : Used r k) (q : 
       hidden = eh ∙ ap (λ (x : ℕ). set (digits 64 x) k 1) (e ∙ sym ef);
     });
   }
-
-  pub open-going : (w : ℕ) (plens paths tlens trees order : List ℕ) → Laid w r plens paths tlens trees → length order ≡ 64 →
-      goingOf w q plens paths tlens trees order ≡ record { cache = del at (getD (cut plens paths) k []) (cachedOf w r plens paths tlens trees); stack = []; kept = [] }
-  open-going w plens paths tlens trees order L l =
-      let d = length-digits 64 (r .hidden) in
-      let z : getD (digits 64 (r .hidden)) k 0 ≡ 0 = ap (λ (x : ℕ). getD (digits 64 x) k 0) e ∙ u .used in
-      let p : distinct (map at (slotsOf w (digits 64 (r .hidden)) (cut plens paths) (cut tlens trees))) ≡ true = ap (λ (x : ℕ). distinct (map at (slotsOf w (digits 64 x) (cut plens paths) (cut tlens trees)))) e ∙ L .apart in
-      let x : cachedOf w q plens paths tlens trees ≡ del at (getD (cut plens paths) k []) (cachedOf w r plens paths tlens trees) =
-      ap (λ (y : List ℕ). gather (slotsOf w y (cut plens paths) (cut tlens trees))) eh
-      ∙ hide-view k w (digits 64 (r .hidden)) (cut plens paths) (cut tlens trees) (omega (arith, d, u .low)) (length-cut plens paths ∙ L .plens-64 ∙ sym d) (length-cut tlens trees ∙ L .tlens-64 ∙ sym d) z p in
-      ap₂ (λ (y : Cache) (i : ℕ). record { cache = y; stack = stackedOf w q plens paths tlens trees order; kept = reverse (map (heldAt w plens paths tlens trees) (take i order)) }) x ea
-      ∙ ap (λ (y : List ℕ). record { cache = del at (getD (cut plens paths) k []) (cachedOf w r plens paths tlens trees); stack = map (heldAt w plens paths tlens trees) y; kept = [] })
-      (ap (λ (y : ℕ). drop (64 - y) order) es ∙ drop-of-length-le order {i = 64 - 0} (omega (arith, l)))

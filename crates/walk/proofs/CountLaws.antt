@@ -12,7 +12,7 @@ use Rattle.model.specs.Tree.{Tree, nameBytes}
 use Rattle.model.specs.Editor.{fits}
 use Rattle.model.specs.Measure.{Counts, countsOf, within, plusName, lessName, plusTree}
 use Rattle.model.proofs.MeasureRight.{within-fits}
-use Rattle.model.proofs.SecondPass.{Roomy, roomy}
+use Rattle.model.proofs.LimitLaws.{Roomy, roomy}
 use Rattle.runs.specs.Digits.{digits}
 use Rattle.runs.specs.Runs.{total}
 use Rattle.runs.proofs.DigitLaws.{length-digits}

@@ -2,7 +2,6 @@
 ghost use mathlib.Core.Path.{_≡_};
 ghost use mathlib.Core.Bool.{true};
 ghost use lib.ListN.{length};
-ghost use Rattle.model.specs.Editor.{Format};
 ghost use Rattle.model.specs.Formats.{sha1};
 ghost use Rattle.model.specs.Table.{goodTable, lookedUp};
 ghost use Rattle.runs.specs.Digits.{digits};

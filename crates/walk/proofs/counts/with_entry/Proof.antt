@@ -1,7 +1,7 @@
 -- `walk::counts::with_entry` meets its contract. Assumes nothing.
 use mathlib.Core.Path.{sym, ap, _∙_}
 use native.Mathlib.Omega.{arith}
-use Rattle.model.proofs.SecondPass.{roomy}
+use Rattle.model.proofs.LimitLaws.{roomy}
 use Rattle.edits.specs.Edits.{putCounts}
 use Rattle.edits.specs.declared.edit.Seen.{Seen}
 use Rattle.walk.specs.Counted.{countsAs}

@@ -1,6 +1,6 @@
 -- `walk::counts::with_tree` meets its contract. Assumes nothing.
 use native.Mathlib.Omega.{arith}
-use Rattle.model.proofs.SecondPass.{roomy}
+use Rattle.model.proofs.LimitLaws.{roomy}
 use Rattle.walk.specs.Counted.{countsAs}
 use Rattle.walk.proofs.CountLaws.{plus-tree}
 use Rattle.walk.proofs.counts.with_tree.Statement.{statement}
