@@ -1,4 +1,4 @@
--- Laws of the object table: what is left of it decides. Assumes nothing.
+-- Laws of the object table: no object passed has the id and the offsets so far do not fall, so what is left of it decides. Assumes nothing.
 use Prim.Native.Nat.{ℕ, _+_, _-_, _*_, _/_, _%_, _≤_, _<_}
 use mathlib.Core.Path.{_≡_, refl, sym, ap, ap₂, _∙_}
 use mathlib.Core.List.{List}

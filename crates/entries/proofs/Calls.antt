@@ -1,4 +1,4 @@
--- What the calls rest on, over variables. Assumes nothing.
+-- What the calls rest on, over variables: a slot's run is its tree's packed form, so an edit of its bytes at an entry's place is the model's edit of the tree, and the counts go with it. Assumes nothing.
 use mathlib.Core.Path.{_≡_, refl, sym, ap, ap₂, _∙_, subst}
 use mathlib.Core.Bool.{Bool, true, false, not}
 use mathlib.Core.Option.{none, some}

@@ -1,4 +1,4 @@
-// The output: texts, numbers and lines, written into lent bytes where they fit.
+// The output: lines of a key and a text, a number, or bytes in hex, written into lent bytes where they fit.
 ghost use mathlib.Core.Path.{_≡_};
 ghost use Prim.Native.Nat.{_+_, _≤_, _<_};
 ghost use lib.Dec.{leb};

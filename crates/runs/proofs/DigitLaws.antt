@@ -1,4 +1,4 @@
--- Laws of the digits of a word. Assumes nothing.
+-- Laws of the digits of a word: halving it drops the lowest, so what is so of the rest is so of the word; adding or taking away a power of two changes one digit where there is nothing to carry. Assumes nothing.
 use mathlib.Core.Path.{_≡_, refl, sym, ap, ap₂, _∙_}
 use mathlib.Core.List.{List, _∷_}
 use Prim.Native.Nat.{ℕ, zero, suc, _+_, _-_, _*_, _/_, _%_, _^_, _≤_, _<_}

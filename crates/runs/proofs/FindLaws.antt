@@ -1,4 +1,4 @@
--- Laws of the search for a path. Assumes nothing.
+-- Laws of the search for a path: a slot that is not the one sought may be passed, so those that are left decide. Assumes nothing.
 use mathlib.Core.Path.{_≡_, refl, sym, ap, ap₂, _∙_}
 use mathlib.Core.Bool.{Bool, true, false, _&&_}
 use mathlib.Core.List.{List, [], _∷_}

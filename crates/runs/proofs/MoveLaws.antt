@@ -1,4 +1,4 @@
--- Laws of `splice`, `part`, `inserted` and `removed`. Assumes nothing.
+-- Laws of `splice`, `part`, `inserted` and `removed`: each is a front, a middle and a rest put together, so that writes one behind the other join. Assumes nothing.
 use mathlib.Core.Path.{_≡_, refl, sym, ap, ap₂, _∙_}
 use mathlib.Core.List.{List, [], _∷_, _++_, append-assoc}
 use Prim.Native.Nat.{ℕ, suc, _+_, _-_, _≤_, _<_}

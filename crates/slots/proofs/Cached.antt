@@ -1,4 +1,4 @@
--- The cached trees depend on their own slots only, so what happens in a slot that is free or taken does not show. Assumes nothing.
+-- With nothing taken every tree is cached, because the hidden slots are the free ones then. Assumes nothing.
 use mathlib.Core.Path.{_≡_, ap}
 use mathlib.Core.List.{List}
 use Prim.Native.Nat.{ℕ}
@@ -7,6 +7,5 @@ use Rattle.runs.specs.Runs.{cut}
 use Rattle.slots.specs.View.{slotsOf, gather, viewOf, cachedOf}
 use Rattle.slots.specs.declared.Editor.{Editor}
 
--- with nothing taken, every tree is cached
 pub cached-view : (w : ℕ) (r : Editor) (plens paths tlens trees : List ℕ) → r .hidden ≡ r .free → cachedOf w r plens paths tlens trees ≡ viewOf w r plens paths tlens trees
 cached-view w r plens paths tlens trees e = ap (λ (x : ℕ). gather (slotsOf w (digits 64 x) (cut plens paths) (cut tlens trees))) e

@@ -1,4 +1,4 @@
--- What the calls rest on, over variables. Assumes nothing.
+-- What the calls rest on, over variables: a slot that was blank gets a path that no slot had, so that the view has one tree more and the rules of the layout stay. Assumes nothing.
 use mathlib.Core.Path.{_≡_, refl, sym, ap, _∙_, subst}
 use mathlib.Core.Bool.{Bool, true, false, cond, _||_}
 use mathlib.Core.Option.{none, some}

@@ -1,4 +1,4 @@
--- Laws of the view: what is put together from the slots. Assumes nothing.
+-- Laws of the view: what is put together from the slots is found by its path, since the paths are different; so a slot more, less or changed is one tree more, less or changed. Assumes nothing.
 use mathlib.Core.Path.{_≡_, refl, sym, ap, _∙_}
 use mathlib.Core.Logic.{_≢_}
 use mathlib.Core.Bool.{Bool, true, false, not, cond, _&&_, _||_}

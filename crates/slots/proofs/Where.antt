@@ -1,4 +1,4 @@
--- The slot of a path, and the view. Assumes nothing.
+-- The slot of a path, and the view: the first used slot at the path is the tree that the view has there, and without such a slot it has none. Assumes nothing.
 use mathlib.Core.Path.{_≡_, refl, sym, ap, _∙_, subst}
 use mathlib.Core.Bool.{Bool, true, false, cond, _||_}
 use mathlib.Core.Option.{none, some}

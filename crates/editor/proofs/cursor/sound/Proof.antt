@@ -1,4 +1,4 @@
--- `editor::cursor::sound` meets its contract. Assumes nothing.
+-- `editor::cursor::sound` meets its contract: a prefix of more than 1,024 bytes is none, and a NUL stands for it, which no cached path has. Assumes nothing.
 use mathlib.Core.Path.{_∙_}
 use Rattle.editor.proofs.CursorLaws.{prefix-within, prefix-beyond}
 use borrow.Author.Needs.{needs}

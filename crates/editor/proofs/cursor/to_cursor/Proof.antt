@@ -1,4 +1,4 @@
--- `editor::cursor::to_cursor` meets its contract. Assumes nothing.
+-- `editor::cursor::to_cursor` meets its contract: the root's prefix is empty, and the bytes behind it are those of `at`. Assumes nothing.
 use mathlib.Core.Path.{sym, _∙_}
 use Rattle.editor.proofs.CursorLaws.{prefix-within}
 use borrow.Author.Needs.{needs}

@@ -1,4 +1,4 @@
--- `editor::root::long_enough` meets its contract. Assumes nothing.
+-- `editor::root::long_enough` meets its contract: each test is one of the five lengths. Assumes nothing.
 use mathlib.Core.Path.{refl}
 use native.Mathlib.Omega.{arith}
 use Rattle.store.proofs.Deciding.{refuses}

@@ -1,4 +1,4 @@
--- `edits::edit::goes_down` meets its contract. Assumes nothing.
+-- `edits::edit::goes_down` meets its contract: only what comes after the turn decides, by cases of it. Assumes nothing.
 use borrow.Author.Needs.{needs}
 use Rattle.edits.proofs.edit.goes_down.Statement.{statement}
 use Rattle.edits.proofs.edit.goes_down.Tie as tie

@@ -1,4 +1,4 @@
--- `edits::edit::remove_last` meets its contract. Assumes nothing.
+-- `edits::edit::remove_last` meets its contract: the kind of removal and whether the entry is a tree decide, as in the definition. Assumes nothing.
 use mathlib.Core.Path.{sym, _∙_}
 use borrow.Author.Needs.{needs}
 use Rattle.edits.proofs.EditLaws.{cuts-any, refuses-tree, cuts-leaf}

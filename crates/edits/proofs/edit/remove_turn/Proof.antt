@@ -1,4 +1,4 @@
--- `edits::edit::remove_turn` meets its contract. Assumes nothing.
+-- `edits::edit::remove_turn` meets its contract: nothing seen stops it, and else the last component and the entry's mode decide. Assumes nothing.
 use mathlib.Core.Path.{sym, _∙_}
 use borrow.Author.Needs.{needs}
 use Rattle.edits.proofs.EditLaws.{removes-nothing, removes-below, removes-no-further}

@@ -1,4 +1,4 @@
--- `edits::edit::through` meets its contract. Assumes nothing.
+-- `edits::edit::through` meets its contract: a tree is gone into, and anything else becomes one with a null id. Assumes nothing.
 use mathlib.Core.Path.{sym, _∙_}
 use borrow.Author.Needs.{needs}
 use Rattle.edits.proofs.EditLaws.{upserts-new, upserts-below, upserts-over}

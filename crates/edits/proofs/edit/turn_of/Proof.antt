@@ -1,4 +1,4 @@
--- `edits::edit::turn_of` meets its contract. Assumes nothing.
+-- `edits::edit::turn_of` meets its contract: a removal and an upsert have their turns, and an upsert's last component asks nothing. Assumes nothing.
 use borrow.Author.Needs.{needs}
 use Rattle.edits.proofs.EditLaws.{puts}
 use Rattle.edits.proofs.edit.turn_of.Statement.{statement}

@@ -1,4 +1,4 @@
--- `edits::edit::wanted_by` meets its contract. Assumes nothing.
+-- `edits::edit::wanted_by` meets its contract: only a turn that goes down into a tree has an id. Assumes nothing.
 use borrow.Author.Needs.{needs}
 use Rattle.edits.proofs.edit.wanted_by.Statement.{statement}
 use Rattle.edits.proofs.edit.wanted_by.Tie as tie

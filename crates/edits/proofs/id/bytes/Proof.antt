@@ -1,4 +1,4 @@
--- `edits::id::bytes` meets its contract. Assumes nothing.
+-- `edits::id::bytes` meets its contract: the quotients by powers of 256 are a word's four bytes, the highest first. Assumes nothing.
 use mathlib.Core.Path.{refl}
 use borrow.Author.Needs.{needs}
 use Rattle.edits.specs.Ids.{wordBytes, idBytes}

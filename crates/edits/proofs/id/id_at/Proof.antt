@@ -1,4 +1,4 @@
--- `edits::id::id_at` meets its contract. Assumes nothing.
+-- `edits::id::id_at` meets its contract: twenty bytes are five times four, each of them a word. Assumes nothing.
 use borrow.Author.Needs.{needs}
 use Rattle.edits.proofs.IdLaws.{id-there}
 use Rattle.edits.proofs.id.id_at.Statement.{statement}

@@ -1,4 +1,4 @@
--- `edits::id::is_empty_tree` meets its contract. Assumes nothing.
+-- `edits::id::is_empty_tree` meets its contract: the five words are those of the published id. Assumes nothing.
 use mathlib.Core.Path.{_∙_, ap}
 use borrow.Author.Needs.{needs}
 use Rattle.model.specs.Bytes.{Bytes, same}

@@ -1,4 +1,4 @@
--- `edits::id::same` meets its contract. Assumes nothing.
+-- `edits::id::same` meets its contract: words are the same exactly where their bytes are, so the first that differ decide. Assumes nothing.
 use Rattle.edits.proofs.IdLaws.{same-a, same-b, same-c, same-d, differ, by-fifth}
 use Rattle.edits.proofs.id.same.Statement.{statement}
 use Rattle.edits.proofs.id.same.Tie as tie

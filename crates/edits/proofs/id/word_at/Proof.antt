@@ -1,4 +1,4 @@
--- `edits::id::word_at` meets its contract. Assumes nothing.
+-- `edits::id::word_at` meets its contract: a sum of bytes times powers of 256 has just these bytes. Assumes nothing.
 use borrow.Author.Needs.{needs}
 use Rattle.edits.proofs.IdLaws.{word-there}
 use Rattle.edits.proofs.id.word_at.Statement.{statement}

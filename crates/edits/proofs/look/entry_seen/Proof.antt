@@ -1,4 +1,4 @@
--- `edits::look::entry_seen` meets its contract. Assumes nothing.
+-- `edits::look::entry_seen` meets its contract: kind and id stand where the entry starts. Assumes nothing.
 use mathlib.Core.Path.{_∙_}
 use native.Mathlib.Omega.{arith}
 use borrow.Author.Needs.{needs}

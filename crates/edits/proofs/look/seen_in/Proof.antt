@@ -1,4 +1,4 @@
--- `edits::look::seen_in` meets its contract. Assumes nothing.
+-- `edits::look::seen_in` meets its contract: each search finds what the model's map finds in its order, and the second is made only where the first finds nothing. Assumes nothing.
 use mathlib.Core.Path.{sym, ap, _∙_}
 use mathlib.Core.Bool.{not}
 use mathlib.Core.Option.{none}

@@ -1,4 +1,4 @@
--- `edits::look::seen_in_raw` meets its contract. Assumes nothing.
+-- `edits::look::seen_in_raw` meets its contract: no entry passed has the name, so those that are left decide; a name stands at most once, as a tree or as another. Assumes nothing.
 use borrow.Author.Needs.{needs}
 use Prim.Native.Nat.{_-_}
 use lib.ListN.{length}

@@ -1,4 +1,4 @@
--- `edits::path::put_full` meets its contract. Assumes nothing.
+-- `edits::path::put_full` meets its contract: the prefix and its slash stand first, then the path; a path of zero bytes adds no slash. Assumes nothing.
 use mathlib.Core.Path.{ap}
 use lib.ListN.{length}
 use native.Mathlib.Omega.{arith}

@@ -1,4 +1,4 @@
--- `edits::path::put_prefix` meets its contract. Assumes nothing.
+-- `edits::path::put_prefix` meets its contract: an empty prefix has no slash, any other one has. Assumes nothing.
 use native.Mathlib.Omega.{arith}
 use borrow.Author.Needs.{needs}
 use Rattle.edits.proofs.FrontLaws.{no-lead, lead-put}

@@ -1,4 +1,4 @@
--- `edits::table::ends_ok` meets its contract. Assumes nothing.
+-- `edits::table::ends_ok` meets its contract: the offsets so far do not fall, so those that are left decide, from the last of them. Assumes nothing.
 use borrow.Author.Needs.{needs}
 use Prim.Native.Nat.{_-_}
 use lib.ListN.{length}

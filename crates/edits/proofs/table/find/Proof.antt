@@ -1,4 +1,4 @@
--- `edits::table::find` meets its contract. Assumes nothing.
+-- `edits::table::find` meets its contract: no object passed has the id, so those that are left decide, from the last one's end. Assumes nothing.
 use borrow.Author.Needs.{needs}
 use Prim.Native.Nat.{_-_}
 use lib.ListN.{length}

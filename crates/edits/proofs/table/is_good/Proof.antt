@@ -1,4 +1,4 @@
--- `edits::table::is_good` meets its contract. Assumes nothing.
+-- `edits::table::is_good` meets its contract: there are as many ids as offsets exactly if 20 divides their bytes and the quotient is that number. Assumes nothing.
 use mathlib.Core.Path.{_∙_}
 use borrow.Author.Needs.{needs}
 use Rattle.edits.proofs.TableLaws.{not-each, not-whole, good-each}

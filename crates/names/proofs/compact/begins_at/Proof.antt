@@ -1,4 +1,4 @@
--- `names::compact::begins_at` meets its contract. Assumes nothing.
+-- `names::compact::begins_at` meets its contract: the entry's front of as many bytes as the name has is the name, or the tree ends there. Assumes nothing.
 use mathlib.Core.Path.{ap, _∙_}
 use Prim.Native.Nat.{_<_}
 use native.Mathlib.Omega.{arith}

@@ -1,4 +1,4 @@
--- `names::compact::count` meets its contract. Assumes nothing.
+-- `names::compact::count` meets its contract: the place is that of the entry counted so far, so at the end of the bytes all are counted. Assumes nothing.
 use Rattle.names.proofs.CompactLaws.{Mark, Walked, walk-begin, walk-at, walk-more, walk-end}
 use lib.ListN.{length}
 use Prim.Native.Nat.{_-_}

@@ -1,4 +1,4 @@
--- `names::compact::entry_kind` meets its contract. Assumes nothing.
+-- `names::compact::entry_kind` meets its contract: the byte where the entry starts is that of its mode, which it alone stands for. Assumes nothing.
 use mathlib.Core.Path.{ap, _∙_}
 use Rattle.names.specs.Compact.{modeAt}
 use Rattle.names.proofs.CompactLaws.{mode-kind}

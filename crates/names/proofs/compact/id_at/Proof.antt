@@ -1,4 +1,4 @@
--- `names::compact::id_at` meets its contract. Assumes nothing.
+-- `names::compact::id_at` meets its contract: the id stands behind the kind and the length. Assumes nothing.
 use mathlib.Core.Path.{_∙_}
 use native.Mathlib.Omega.{arith}
 use Rattle.names.proofs.CompactLaws.{Mark, mark}

@@ -1,4 +1,4 @@
--- `names::compact::kind_at` meets its contract. Assumes nothing.
+-- `names::compact::kind_at` meets its contract: the kind is the entry's first byte. Assumes nothing.
 use Rattle.names.proofs.CompactLaws.{Mark, mark}
 use native.Mathlib.Omega.{arith}
 use Rattle.names.proofs.compact.kind_at.Statement.{statement}

@@ -1,4 +1,4 @@
--- `names::compact::kind_byte` meets its contract. Assumes nothing.
+-- `names::compact::kind_byte` meets its contract: each of the five has its own byte. Assumes nothing.
 use Rattle.names.specs.Compact.{kindOf}
 use borrow.Author.Needs.{needs}
 use Rattle.names.proofs.compact.kind_byte.Statement.{statement}

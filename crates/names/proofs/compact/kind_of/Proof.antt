@@ -1,4 +1,4 @@
--- `names::compact::kind_of` meets its contract. Assumes nothing.
+-- `names::compact::kind_of` meets its contract: each byte below 4 is one of four modes, and any other is the fifth. Assumes nothing.
 use mathlib.Core.Path.{sym, ap}
 use native.Mathlib.Omega.{arith}
 use Rattle.names.specs.Compact.{modeAt}

@@ -1,4 +1,4 @@
--- `names::compact::name_at` meets its contract. Assumes nothing.
+-- `names::compact::name_at` meets its contract: the name stands behind kind, length and id, and is as long as the second byte says. Assumes nothing.
 use mathlib.Core.Path.{_∙_}
 use native.Mathlib.Omega.{arith}
 use Rattle.names.proofs.CompactLaws.{Mark, mark}

@@ -1,4 +1,4 @@
--- `names::compact::order_at` meets its contract. Assumes nothing.
+-- `names::compact::order_at` meets its contract: the entry's key is its name, with a slash exactly where its kind is 0. Assumes nothing.
 use native.Mathlib.Omega.{arith}
 use Rattle.names.proofs.CompactLaws.{Mark, mark, zero-tree}
 use Prim.Native.Nat.{ℕ}

@@ -1,4 +1,4 @@
--- `names::compact::pack` meets its contract. Assumes nothing.
+-- `names::compact::pack` meets its contract: the entries read so far stand packed at the front, and those that are left fill the rest. Assumes nothing.
 use borrow.Author.Needs.{needs}
 use native.Mathlib.Omega.{arith}
 use Prim.Native.Nat.{_-_}

@@ -1,4 +1,4 @@
--- `names::compact::put_at` meets its contract. Assumes nothing.
+-- `names::compact::put_at` meets its contract: three writes, one behind the other, are one write of the whole. Assumes nothing.
 use denote.Ref.{now}
 use Prim.Native.Nat.{ℕ, _+_}
 use mathlib.Core.Path.{_≡_, ap, _∙_}

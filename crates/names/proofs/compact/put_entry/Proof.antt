@@ -1,4 +1,4 @@
--- `names::compact::put_entry` meets its contract. Assumes nothing.
+-- `names::compact::put_entry` meets its contract: 321 bytes have room for every entry, which stands at their front. Assumes nothing.
 use denote.Ref.{now}
 use mathlib.Core.List.{_∷_, _++_}
 use lib.ListN.{length, take, length-append}

@@ -1,4 +1,4 @@
--- `names::compact::put_raw` meets its contract. Assumes nothing.
+-- `names::compact::put_raw` meets its contract: the parts of the entry are those that its compact form has. Assumes nothing.
 use native.Mathlib.Omega.{arith}
 use denote.Ref.{now}
 use Prim.Native.Nat.{_+_}

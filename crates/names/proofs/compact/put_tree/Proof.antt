@@ -1,4 +1,4 @@
--- `names::compact::put_tree` meets its contract. Assumes nothing.
+-- `names::compact::put_tree` meets its contract: the raw form of the entries so far stands at the front, and that of the others follows. Assumes nothing.
 use native.Mathlib.Omega.{arith}
 use Prim.Native.Nat.{_-_}
 use lib.ListN.{length}

@@ -1,4 +1,4 @@
--- `names::compact::raw_entry_len` meets its contract. Assumes nothing.
+-- `names::compact::raw_entry_len` meets its contract: a mode has five digits for a tree and six for the others, beside a space and a NUL. Assumes nothing.
 use native.Mathlib.Omega.{arith}
 use Rattle.names.proofs.CompactLaws.{Mark, mark}
 use Rattle.names.proofs.CompactRawLaws.{raw-tree, raw-other}

@@ -1,4 +1,4 @@
--- `names::compact::raw_len` meets its contract. Assumes nothing.
+-- `names::compact::raw_len` meets its contract: the length so far is that of the entries passed, and the others add theirs. Assumes nothing.
 use native.Mathlib.Omega.{arith}
 use Prim.Native.Nat.{_-_}
 use lib.ListN.{length}

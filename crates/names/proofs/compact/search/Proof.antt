@@ -1,4 +1,4 @@
--- `names::compact::search` meets its contract. Assumes nothing.
+-- `names::compact::search` meets its contract: each turn is one of the definition's halving, on the same part of the entries, with the place of its first. Assumes nothing.
 use borrow.Author.Needs.{needs}
 use Rattle.names.proofs.CompactSearchLaws.{Seeking, seek-all, seek-low, seek-high, seek-hit, seek-none, seek-moved, entries-fewer}
 use Rattle.names.specs.Answers.{asOrdering}

@@ -1,4 +1,4 @@
--- `names::compact::skip` meets its contract. Assumes nothing.
+-- `names::compact::skip` meets its contract: an entry ends where the next starts, as far behind its start as its length says. Assumes nothing.
 use Rattle.names.proofs.CompactLaws.{Mark, mark}
 use Rattle.names.specs.Compact.{offset}
 use mathlib.Core.Path.{_≡_, ap, _∙_}

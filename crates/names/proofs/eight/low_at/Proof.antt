@@ -1,4 +1,4 @@
--- `names::eight::low_at` meets its contract. Assumes nothing.
+-- `names::eight::low_at` meets its contract: each byte is a digit to the base 256, the first the lowest. Assumes nothing.
 use borrow.Author.Needs.{needs}
 use Prim.Native.Nat.{_+_}
 use native.Mathlib.Omega.{arith}

@@ -1,4 +1,4 @@
--- `names::eight::plain_eight` meets its contract. Assumes nothing.
+-- `names::eight::plain_eight` meets its contract: none of eight bytes is a slash or NUL exactly if each test says so. Assumes nothing.
 use borrow.Author.Needs.{needs}
 use Rattle.names.proofs.EightLaws.{plain-there}
 use Rattle.names.proofs.eight.plain_eight.Statement.{statement}

@@ -1,4 +1,4 @@
--- `names::eight::plain_front` meets its contract. Assumes nothing.
+-- `names::eight::plain_front` meets its contract: the eights passed are plain, and one that is not ends the front. Assumes nothing.
 use borrow.Author.Needs.{needs}
 use Prim.Native.Nat.{_-_}
 use mathlib.Core.Path.{sym, _∙_}

@@ -1,4 +1,4 @@
--- `names::eight::plain_name` meets its contract. Assumes nothing.
+-- `names::eight::plain_name` meets its contract: the parts passed at both ends are plain, and once they meet they are the whole name. Assumes nothing.
 use borrow.Author.Needs.{needs}
 use Prim.Native.Nat.{_+_, _-_, _≤_}
 use mathlib.Core.Path.{sym, _∙_}

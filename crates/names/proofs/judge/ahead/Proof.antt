@@ -1,4 +1,4 @@
--- `names::judge::ahead` meets its contract. Assumes nothing.
+-- `names::judge::ahead` meets its contract: numbers of eight bytes are ordered as the bytes are; names that begin alike and are equally long and of at most 16 bytes are ordered as their last eight are. Assumes nothing.
 use borrow.Author.Needs.{needs}
 use mathlib.Core.Bool.{false≢true}
 use native.Mathlib.Omega.{arith}

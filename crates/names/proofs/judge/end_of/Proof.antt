@@ -1,4 +1,4 @@
--- `names::judge::end_of` meets its contract. Assumes nothing.
+-- `names::judge::end_of` meets its contract: each test is one of those that the definition makes before it says where the entry ends. Assumes nothing.
 use borrow.Author.Needs.{needs}
 use Prim.Native.Nat.{_+_}
 use native.Mathlib.Omega.{arith}

@@ -1,4 +1,4 @@
--- `names::judge::goes_next` meets its contract. Assumes nothing.
+-- `names::judge::goes_next` meets its contract: the names and kinds of both entries are what the bytes hold between their places. Assumes nothing.
 use borrow.Author.Needs.{needs}
 use mathlib.Core.Path.{ap, _∙_}
 use native.Mathlib.Omega.{arith}

@@ -1,4 +1,4 @@
--- `names::judge::has_twin` meets its contract. Assumes nothing.
+-- `names::judge::has_twin` meets its contract: every entry passed comes before the twin, so the first that does not decides. Assumes nothing.
 use borrow.Author.Needs.{needs}
 use Prim.Native.Nat.{_-_}
 use mathlib.Core.Path.{_∙_}

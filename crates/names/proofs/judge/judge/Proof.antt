@@ -1,4 +1,4 @@
--- `names::judge::judge` meets its contract. Assumes nothing.
+-- `names::judge::judge` meets its contract: the entries so far are well formed, whether a run or one careful step went over them, so those that are left decide. Assumes nothing.
 use borrow.Author.Needs.{needs}
 use Prim.Native.Nat.{_-_, _<_}
 use native.Mathlib.Omega.{arith}

@@ -1,4 +1,4 @@
--- `names::judge::may_follow` meets its contract. Assumes nothing.
+-- `names::judge::may_follow` meets its contract: how two neighbours stand decides, and the later entries only where one name goes on with the other. Assumes nothing.
 use borrow.Author.Needs.{needs}
 use Rattle.names.proofs.FitLaws.{fit-apart, fit-twin, fit-alone, fit-wrong}
 use Rattle.names.proofs.judge.may_follow.Statement.{statement}

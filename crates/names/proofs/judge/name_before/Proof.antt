@@ -1,4 +1,4 @@
--- `names::judge::name_before` meets its contract. Assumes nothing.
+-- `names::judge::name_before` meets its contract: the entry before ends where this one starts. Assumes nothing.
 use borrow.Author.Needs.{needs}
 use Prim.Native.Nat.{_+_, _≤_}
 use mathlib.Core.Path.{sym}

@@ -1,4 +1,4 @@
--- `names::judge::run_on` meets its contract. Assumes nothing.
+-- `names::judge::run_on` meets its contract: an entry whose name comes after the one before by its bytes and is plain fits, whatever follows. Assumes nothing.
 use borrow.Author.Needs.{needs}
 use Prim.Native.Nat.{_-_, _≤_}
 use mathlib.Core.Path.{sym, _∙_}

@@ -1,4 +1,4 @@
--- `names::judge::tree_before` meets its contract. Assumes nothing.
+-- `names::judge::tree_before` meets its contract: kind 0 is a tree's, and before the first entry there is none. Assumes nothing.
 use mathlib.Core.Path.{sym}
 use native.Mathlib.Omega.{arith}
 use Rattle.names.proofs.AheadLaws.{tree-none, tree-some}

@@ -1,4 +1,4 @@
--- `names::neighbour::plain_from` meets its contract. Assumes nothing.
+-- `names::neighbour::plain_from` meets its contract: the bytes passed are neither slash nor NUL, so those that are left decide. Assumes nothing.
 use borrow.Author.Needs.{needs}
 use Prim.Native.Nat.{_-_}
 use lib.ListN.{length}

@@ -1,4 +1,4 @@
--- `names::neighbour::step` meets its contract. Assumes nothing.
+-- `names::neighbour::step` meets its contract: the part that both names share is plain, for the one before is; so the rest decides whether the name is good, and then the first byte that differs. Assumes nothing.
 use borrow.Author.Needs.{needs}
 use mathlib.Core.Path.{sym, _∙_}
 use Rattle.names.proofs.NameLaws.{name-empty, name-long}

@@ -1,4 +1,4 @@
--- `names::neighbour::step_at` meets its contract. Assumes nothing.
+-- `names::neighbour::step_at` meets its contract: the first byte that differs decides the order, with a slash where a tree's name ends; only a file's name that the next goes on with below the slash leaves a twin possible. Assumes nothing.
 use borrow.Author.Needs.{needs}
 use Rattle.names.proofs.StandingLaws.{apart-byte, wrong-byte, apart-tree, wrong-tree, wrong-file, past-slash, before-slash, goes-on, alike-names}
 use Rattle.names.proofs.neighbour.step_at.Statement.{statement}

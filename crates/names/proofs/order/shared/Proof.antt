@@ -1,4 +1,4 @@
--- `names::order::shared` meets its contract. Assumes nothing.
+-- `names::order::shared` meets its contract: the bytes passed are alike, and the first that differ or an end stops it. Assumes nothing.
 use borrow.Author.Needs.{needs}
 use Prim.Native.Nat.{_-_}
 use native.Mathlib.Omega.{arith}

@@ -1,4 +1,4 @@
--- `names::path::has_bad_part` meets its contract. Assumes nothing.
+-- `names::path::has_bad_part` meets its contract: the components that have ended are good, and the bytes of the one at hand are no NULs; so what is left decides. Assumes nothing.
 use lib.ListN.{length}
 use Prim.Native.Nat.{_-_}
 use mathlib.Core.Logic.{⊎-elim}

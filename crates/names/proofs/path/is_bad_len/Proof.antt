@@ -1,4 +1,4 @@
--- `names::path::is_bad_len` meets its contract. Assumes nothing.
+-- `names::path::is_bad_len` meets its contract: 0 and whatever is over 255. Assumes nothing.
 use borrow.Author.Tests.{eq-eqb, ne-eqb}
 use Rattle.names.proofs.ValidLaws.{over-is}
 use Rattle.names.proofs.path.is_bad_len.Statement.{statement}

@@ -1,4 +1,4 @@
--- `names::path::valid_path` meets its contract. Assumes nothing.
+-- `names::path::valid_path` meets its contract: a path of at most 1,024 bytes is valid exactly if no byte is NUL and no component empty or too long. Assumes nothing.
 use borrow.Author.Needs.{needs}
 use Rattle.names.proofs.ValidLaws.{valid-long, valid-short}
 use Rattle.names.proofs.path.valid_path.Statement.{statement}

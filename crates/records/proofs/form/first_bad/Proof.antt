@@ -1,4 +1,4 @@
--- `records::form::first_bad` meets its contract. Assumes nothing.
+-- `records::form::first_bad` meets its contract: the records passed have the form, so what is left decides, with four lines to a record. Assumes nothing.
 use lib.ListN.{length}
 use Prim.Native.Nat.{_-_, _<_}
 use borrow.Author.Needs.{needs}

@@ -1,4 +1,4 @@
--- `records::hex::decode` meets its contract. Assumes nothing.
+-- `records::hex::decode` meets its contract: hex of an even length says half as many bytes, which are written only where they fit. Assumes nothing.
 use borrow.Author.Tests.{leb-true, leb-false}
 use mathlib.Core.Bool.{true}
 use mathlib.Core.Path.{_≡_, sym, _∙_}

@@ -1,4 +1,4 @@
--- `records::hex::digit_value` meets its contract. Assumes nothing.
+-- `records::hex::digit_value` meets its contract: 0 to 9 begin at 48, a to f at 97. Assumes nothing.
 use native.Mathlib.Omega.{arith}
 use Rattle.records.proofs.HexLaws.{low-bound, high-bound, value-low, value-high}
 use Rattle.records.proofs.hex.digit_value.Statement.{statement}

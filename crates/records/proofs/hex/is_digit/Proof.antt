@@ -1,4 +1,4 @@
--- `records::hex::is_digit` meets its contract. Assumes nothing.
+-- `records::hex::is_digit` meets its contract: 0 to 9 and a to f, by their bounds. Assumes nothing.
 use mathlib.Core.Path.{sym}
 use Rattle.records.proofs.HexLaws.{digit-low, digit-high, digit-over}
 use Rattle.records.proofs.hex.is_digit.Statement.{statement}

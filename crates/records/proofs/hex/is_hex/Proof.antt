@@ -1,4 +1,4 @@
--- `records::hex::is_hex` meets its contract. Assumes nothing.
+-- `records::hex::is_hex` meets its contract: the pairs passed are digits, so what is left decides; a single byte at the end is no pair. Assumes nothing.
 use borrow.Author.Needs.{needs}
 use mathlib.Core.Path.{sym, _∙_}
 use Prim.Native.Nat.{_-_}

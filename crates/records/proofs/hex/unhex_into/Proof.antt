@@ -1,4 +1,4 @@
--- `records::hex::unhex_into` meets its contract. Assumes nothing.
+-- `records::hex::unhex_into` meets its contract: each pair of digits says one byte, and those passed are written. Assumes nothing.
 use denote.Ref.{now}
 use lib.ListN.{length, getD}
 use Prim.Native.Nat.{_+_, _*_, _-_, _/_, _≤_, _<_}

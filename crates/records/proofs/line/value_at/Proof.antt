@@ -1,4 +1,4 @@
--- `records::line::value_at` meets its contract. Assumes nothing.
+-- `records::line::value_at` meets its contract: a line ends at the first newline, and its value stands behind the key where it begins with that. Assumes nothing.
 use Prim.Native.Nat.{_+_, _≤_, _<_}
 use lib.ListN.{length}
 use denote.Ref.{now}

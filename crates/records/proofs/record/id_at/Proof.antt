@@ -1,4 +1,4 @@
--- `records::record::id_at` meets its contract. Assumes nothing.
+-- `records::record::id_at` meets its contract: the line is there with its key, and then the value decides. Assumes nothing.
 use denote.Ref.{now}
 use mathlib.Core.Option.{none, some}
 use mathlib.Core.Bool.{cond}

@@ -1,4 +1,4 @@
--- `records::record::id_ok` meets its contract. Assumes nothing.
+-- `records::record::id_ok` meets its contract: an upsert has an id of the width in hex, and a removal none. Assumes nothing.
 use mathlib.Core.Path.{sym, ap, _∙_}
 use borrow.Author.Needs.{needs}
 use Rattle.records.proofs.PlaceLaws.{id-of-upsert, id-no-hex, id-of-removal}

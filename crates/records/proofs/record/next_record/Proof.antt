@@ -1,4 +1,4 @@
--- `records::record::next_record` meets its contract. Assumes nothing.
+-- `records::record::next_record` meets its contract: the lines are read in their order, so the first that is not good gives its number. Assumes nothing.
 use native.Mathlib.Omega.{arith}
 use denote.Ref.{now}
 use lib.ListN.{length}

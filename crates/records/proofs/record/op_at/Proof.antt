@@ -1,4 +1,4 @@
--- `records::record::op_at` meets its contract. Assumes nothing.
+-- `records::record::op_at` meets its contract: the line is there with its key, and then the value decides. Assumes nothing.
 use lib.ListN.{length}
 use Prim.Native.Nat.{_<_, _+_}
 use native.Mathlib.Omega.{arith}

@@ -1,4 +1,4 @@
--- `records::record::op_of` meets its contract. Assumes nothing.
+-- `records::record::op_of` meets its contract: an upsert has a mode, and a removal none. Assumes nothing.
 use denote.Ref.{now}
 use mathlib.Core.Path.{_≡_, ap}
 use borrow.Author.Needs.{needs}

@@ -1,4 +1,4 @@
--- `records::record::verb_of` meets its contract. Assumes nothing.
+-- `records::record::verb_of` meets its contract: three words are compared, one after the other. Assumes nothing.
 use borrow.Author.Needs.{needs}
 use Rattle.records.specs.Records.{verbOf}
 use Rattle.records.proofs.record.verb_of.Statement.{statement}

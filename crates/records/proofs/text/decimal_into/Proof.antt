@@ -1,4 +1,4 @@
--- `records::text::decimal_into` meets its contract. Assumes nothing.
+-- `records::text::decimal_into` meets its contract: the digits so far are those of the number's low end, and what is left of it has the others; twenty are enough for every word. Assumes nothing.
 use native.Mathlib.Omega.{arith}
 use Rattle.records.proofs.TextLaws.{Digits, digits-begin, digits-end, digits-left, digits-long, digits-more}
 use Rattle.records.proofs.text.decimal_into.Statement.{statement}

@@ -1,4 +1,4 @@
--- `records::text::digit_for` meets its contract. Assumes nothing.
+-- `records::text::digit_for` meets its contract: 0 to 9 begin at 48, a to f at 97. Assumes nothing.
 use borrow.Author.Needs.{needs}
 use Rattle.records.proofs.TextLaws.{digit-below, digit-above}
 use Rattle.records.proofs.text.digit_for.Statement.{statement}

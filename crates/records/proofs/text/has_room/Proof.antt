@@ -1,4 +1,4 @@
--- `records::text::has_room` meets its contract. Assumes nothing.
+-- `records::text::has_room` meets its contract: the place is compared first, so that no sum passes a word. Assumes nothing.
 use Prim.Native.Nat.{_+_}
 use native.Mathlib.Omega.{arith}
 use Rattle.records.proofs.TextLaws.{room-less, room-left}

@@ -1,4 +1,4 @@
--- `records::text::hex_into` meets its contract. Assumes nothing.
+-- `records::text::hex_into` meets its contract: each byte is two digits, and those of the bytes passed are written. Assumes nothing.
 use lib.ListN.{length-set, length}
 use denote.Ref.{now}
 use Prim.Native.Nat.{_+_, _*_, _-_, _≤_}

@@ -1,4 +1,4 @@
--- `records::text::line_room` meets its contract. Assumes nothing.
+-- `records::text::line_room` meets its contract: a line has its key, its value, `=` and a newline; each is taken from the room that is left, so that no sum passes a word. Assumes nothing.
 use Prim.Native.Nat.{_+_}
 use native.Mathlib.Omega.{arith}
 use borrow.Author.Needs.{needs}

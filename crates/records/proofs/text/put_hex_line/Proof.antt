@@ -1,4 +1,4 @@
--- `records::text::put_hex_line` meets its contract. Assumes nothing.
+-- `records::text::put_hex_line` meets its contract: the digits are twice as many as the bytes, which fits into a word, for they are at most half the output. Assumes nothing.
 use lib.ListN.{length-append, length}
 use borrow.Author.Tests.{leb-true, leb-false}
 use mathlib.Core.List.{[], _∷_, _++_}

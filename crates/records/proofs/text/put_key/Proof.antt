@@ -1,4 +1,4 @@
--- `records::text::put_key` meets its contract. Assumes nothing.
+-- `records::text::put_key` meets its contract: two writes, one behind the other, are one write of the whole. Assumes nothing.
 use mathlib.Core.List.{[], _∷_}
 use denote.Ref.{now}
 use native.Mathlib.Omega.{arith}

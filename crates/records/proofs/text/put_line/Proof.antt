@@ -1,4 +1,4 @@
--- `records::text::put_line` meets its contract. Assumes nothing.
+-- `records::text::put_line` meets its contract: key, value and newline are written one behind the other, where all of them fit. Assumes nothing.
 use lib.ListN.{length-append, length}
 use borrow.Author.Tests.{leb-true, leb-false}
 use mathlib.Core.List.{[], _∷_, _++_}

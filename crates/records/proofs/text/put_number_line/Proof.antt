@@ -1,4 +1,4 @@
--- `records::text::put_number_line` meets its contract. Assumes nothing.
+-- `records::text::put_number_line` meets its contract: the digits are put at the end of twenty bytes, and the line takes them from there. Assumes nothing.
 use mathlib.Core.Path.{ap, _∙_}
 use denote.Ref.{now}
 use native.Mathlib.Omega.{arith}

@@ -1,4 +1,4 @@
--- `runs::free::first` meets its contract, by the laws of the digits. Assumes nothing.
+-- `runs::free::first` meets its contract: the trailing zeros of a word are the digits before its first that is set. Assumes nothing.
 use native.Mathlib.Omega.{arith}
 use lib.Count.{trailing-le}
 use Rattle.runs.proofs.DigitLaws.{trailing-first}

@@ -1,4 +1,4 @@
--- `runs::free::give` meets its contract, by the laws of the digits. Assumes nothing.
+-- `runs::free::give` meets its contract: adding a power of two to a word whose digit there is 0 sets that digit alone. Assumes nothing.
 use mathlib.Core.Path.{ap, _∙_}
 use Prim.Native.Nat.{ℕ, _+_}
 use native.Mathlib.Omega.{arith}

@@ -1,4 +1,4 @@
--- `runs::free::is_free` meets its contract, by the laws of the digits. Assumes nothing.
+-- `runs::free::is_free` meets its contract: the digit of a place is the word shifted there, without its higher digits. Assumes nothing.
 use mathlib.Core.Path.{ap, sym}
 use Prim.Native.Nat.{ℕ}
 use borrow.Author.Needs.{needs}

@@ -1,4 +1,4 @@
--- `runs::free::left` meets its contract, by the laws of the digits. Assumes nothing.
+-- `runs::free::left` meets its contract: the ones of a word are its digits that are set. Assumes nothing.
 use native.Mathlib.Omega.{arith}
 use lib.Count.{ones-le}
 use Rattle.runs.proofs.DigitLaws.{ones-total}

@@ -1,4 +1,4 @@
--- `runs::free::take` meets its contract, by the laws of the digits. Assumes nothing.
+-- `runs::free::take` meets its contract: taking away a power of two from a word whose digit there is 1 clears that digit alone. Assumes nothing.
 use mathlib.Core.Path.{ap, _∙_}
 use Prim.Native.Nat.{ℕ, _-_}
 use native.Mathlib.Omega.{arith}

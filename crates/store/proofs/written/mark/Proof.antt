@@ -1,4 +1,4 @@
--- `store::written::mark` meets its contract. Assumes nothing.
+-- `store::written::mark` meets its contract: a slot is marked exactly if it is one of the 64 and its bit was not set before. Assumes nothing.
 use mathlib.Core.Path.{sym, _∙_}
 use borrow.Author.Tests.{eqb-true, eqb-false}
 use borrow.Author.Needs.{needs}

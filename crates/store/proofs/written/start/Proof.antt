@@ -1,4 +1,4 @@
--- `store::written::start` meets its contract. Assumes nothing.
+-- `store::written::start` meets its contract: the first that was set aside, or the requested one where none was. Assumes nothing.
 use borrow.Author.Needs.{needs}
 use Rattle.store.proofs.StartLaws.{start-later}
 use Rattle.store.proofs.written.start.Statement.{statement}

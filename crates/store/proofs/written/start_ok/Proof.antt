@@ -1,4 +1,4 @@
--- `store::written::start_ok` meets its contract. Assumes nothing.
+-- `store::written::start_ok` meets its contract: only the root's path is empty; a write from the root begins there, and one from a cursor elsewhere leaves the root cached. Assumes nothing.
 use mathlib.Core.Path.{_≡_, sym, ap, _∙_}
 use Prim.Native.Nat.{ℕ, _<_}
 use native.Mathlib.Omega.{arith}

@@ -1,4 +1,4 @@
--- `walk::counts::counts_of` meets its contract. Assumes nothing.
+-- `walk::counts::counts_of` meets its contract: the free slots and those in use are 64 together. Assumes nothing.
 use mathlib.Core.Path.{ap}
 use Prim.Native.Nat.{ℕ, _-_}
 use native.Mathlib.Omega.{arith}

@@ -1,4 +1,4 @@
--- `walk::counts::with_entry` meets its contract. Assumes nothing.
+-- `walk::counts::with_entry` meets its contract: an entry that was there is counted already; within the limits no sum passes a word. Assumes nothing.
 use mathlib.Core.Path.{sym, ap, _∙_}
 use native.Mathlib.Omega.{arith}
 use Rattle.model.proofs.LimitLaws.{roomy}

@@ -1,4 +1,4 @@
--- `walk::counts::with_tree` meets its contract. Assumes nothing.
+-- `walk::counts::with_tree` meets its contract: each count grows by the tree's own; within the limits no sum passes a word. Assumes nothing.
 use native.Mathlib.Omega.{arith}
 use Rattle.model.proofs.LimitLaws.{roomy}
 use Rattle.walk.specs.Counted.{countsAs}

@@ -1,4 +1,4 @@
--- `walk::counts::without_entry` meets its contract. Assumes nothing.
+-- `walk::counts::without_entry` meets its contract: the definition's difference is 0 too where there is none. Assumes nothing.
 use Rattle.walk.specs.Counted.{countsAs}
 use Rattle.walk.proofs.CountLaws.{less-name}
 use borrow.Author.Needs.{needs}

@@ -1,4 +1,4 @@
--- `writes::turn::is_dropped` meets its contract. Assumes nothing.
+-- `writes::turn::is_dropped` meets its contract: an empty tree goes, unless it is the start tree, which alone is finished with none set aside. Assumes nothing.
 use mathlib.Core.Path.{sym, ap}
 use mathlib.Core.Bool.{Bool, not, _&&_}
 use lib.Dec.{eqb}
