@@ -1,7 +1,7 @@
 #!/usr/bin/env python3
-"""Makes the cases of crates/git_cases with Git as the judge, and the counts in docs/VECTORS.md.
+"""Makes the cases of crates/test_git with Git as the judge, and the counts in docs/VECTORS.md.
 
-    tools/git_vectors.py            make them, and write crates/git_cases/stdin, stdout and the counts
+    tools/git_vectors.py            make them, and write crates/test_git/stdin, stdout and the counts
     tools/git_vectors.py --check    make them anew and compare with what is stored; status 1 on any difference
 
 Needs the installed Git and nothing else. The draws are seeded, so the same script gives the same cases.
@@ -17,8 +17,8 @@ from collections import Counter
 from pathlib import Path
 
 ROOT = Path(__file__).resolve().parent.parent
-STDIN = ROOT / "crates/git_cases/stdin"
-STDOUT = ROOT / "crates/git_cases/stdout"
+STDIN = ROOT / "crates/test_git/stdin"
+STDOUT = ROOT / "crates/test_git/stdout"
 DOC = ROOT / "docs/VECTORS.md"
 BEGIN, END = "<!-- counts: begin -->\n", "<!-- counts: end -->\n"
 

@@ -1,5 +1,5 @@
 #!/usr/bin/env python3
-"""Checks that crates/promises/specs/Public.antt says of each public call what the call's own contract says.
+"""Checks that crates/theorems/specs/Public.antt says of each public call what the call's own contract says.
 
     same_statements.py
 
@@ -12,7 +12,7 @@ import re
 import sys
 
 ROOT = os.path.join(os.path.dirname(os.path.abspath(__file__)), "..")
-TABLE = os.path.join(ROOT, "crates/promises/specs/Public.antt")
+TABLE = os.path.join(ROOT, "crates/theorems/specs/Public.antt")
 
 # the clause of each function; functions that others of the list are made of are left out
 CLAUSES = {
@@ -47,7 +47,7 @@ def argument(text, word):
 
 def functions():
     """each public function of the two crates whose contract has a `Does`, and the term under it"""
-    for path in sorted(glob.glob(os.path.join(ROOT, "crates/editor/src/*.rt")) + glob.glob(os.path.join(ROOT, "crates/writing/src/*.rt"))):
+    for path in sorted(glob.glob(os.path.join(ROOT, "crates/editor/src/*.rt")) + glob.glob(os.path.join(ROOT, "crates/editor_write/src/*.rt"))):
         with open(path, encoding="utf-8") as f:
             text = f.read()
         crate = path.split(os.sep)[-3]

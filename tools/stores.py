@@ -4,7 +4,7 @@
     stores.py check < STORES                     a line 1 or 0 for each store
     stores.py make --seed S --count N            N stores, good and damaged (tools/store_maker.py), on standard output
         [--answers FILE]                         and a line for each: 1 or 0, and what was done to it
-    stores.py fixed                              write the fixed list, crates/store_cases/stdin and stdout
+    stores.py fixed                              write the fixed list, crates/test_stores/stdin and stdout
     stores.py compare --seed S --count N -- PROGRAM...
                                                  N stores through PROGRAM, compared with the check; counts, status 1 on any difference.
                                                  Without PROGRAM the counts alone
@@ -23,8 +23,8 @@ from collections import Counter
 from pathlib import Path
 
 ROOT = Path(__file__).resolve().parent.parent
-STDIN = ROOT / "crates/store_cases/stdin"
-STDOUT = ROOT / "crates/store_cases/stdout"
+STDIN = ROOT / "crates/test_stores/stdin"
+STDOUT = ROOT / "crates/test_stores/stdout"
 
 FIELDS = ("free", "hidden", "paths", "trees", "entries", "names", "open", "aside", "stacked", "asked")
 ID = 20

@@ -9,14 +9,14 @@ use Rattle.names.specs.Answers.{asMode}
 use Rattle.names.specs.Bits.{bitsOf}
 use Rattle.names.specs.Splice.{splice}
 use Rattle.names.specs.declared.mode.EntryKind.{EntryKind}
-use Rattle.edits.specs.Answers.{codeNumber}
-use Rattle.edits.specs.Ids.{idBytes}
-use Rattle.edits.specs.declared.code.Code.{Code}
-use Rattle.edits.specs.declared.id.Id.{Id}
-use Rattle.walk.specs.Lookups.{lookedAs}
-use Rattle.walk.specs.declared.look.Looked.{Looked}
-use Rattle.walk.specs.declared.look.Looked.the-variants.{Found, Missing, Refused}
-use Rattle.store.specs.Decides.{Decides}
+use Rattle.editor_terms.specs.Answers.{codeNumber}
+use Rattle.editor_terms.specs.Ids.{idBytes}
+use Rattle.editor_terms.specs.declared.code.Code.{Code}
+use Rattle.editor_terms.specs.declared.id.Id.{Id}
+use Rattle.editor_walk.specs.Lookups.{lookedAs}
+use Rattle.editor_walk.specs.declared.look.Looked.{Looked}
+use Rattle.editor_walk.specs.declared.look.Looked.the-variants.{Found, Missing, Refused}
+use Rattle.store_check.specs.Decides.{Decides}
 use Rattle.adapter.specs.Reads.{Tells, Gives}
 
 pub tells-one : (P : Type 0) (b : Bool) → Decides P b → b ≡ true → Tells P 1

@@ -4,10 +4,10 @@ ghost use mathlib.Core.List.{[]};
 ghost use Rattle.model.specs.Formats.{sha1};
 ghost use Rattle.model.specs.Calls as model;
 ghost use Rattle.model.specs.Walk as walk;
-ghost use Rattle.edits.specs.Objects.{tableOf};
+ghost use Rattle.editor_terms.specs.Objects.{tableOf};
 ghost use Rattle.editor.specs.Lent.{lent, Does};
-ghost use Rattle.numbered.specs.Numbers.{Numbers, putBy};
-use slots::Editor;
+ghost use Rattle.adapter_numbers.specs.Numbers.{Numbers, putBy};
+use store_slots::Editor;
 
 // Sets the entry at a path below a prefix: 14 where the mode is none of the five, or the id has not 20 bytes.
 #[no_mangle]
@@ -30,7 +30,7 @@ pub extern "C" fn tree_editor_upsert_at(
         (lent (now (ed .entry)) (now (plens .entry)) (now (paths .entry)) (now (tlens .entry)) (now (trees .entry)) (now (order .entry))) r
         (lent (now (ed .exit)) (now (plens .exit)) (now (paths .exit)) (now (tlens .exit)) (now (trees .exit)) (now (order .exit))) ⌝ }
 {
-    let d = numbered::edit::upsert_at(
+    let d = adapter_numbers::edit::upsert_at(
         *ed,
         plens,
         paths,
@@ -69,7 +69,7 @@ pub extern "C" fn tree_editor_upsert(
         (lent (now (ed .entry)) (now (plens .entry)) (now (paths .entry)) (now (tlens .entry)) (now (trees .entry)) (now (order .entry))) r
         (lent (now (ed .exit)) (now (plens .exit)) (now (paths .exit)) (now (tlens .exit)) (now (trees .exit)) (now (order .exit))) ⌝ }
 {
-    let d = numbered::edit::upsert(
+    let d = adapter_numbers::edit::upsert(
         *ed,
         plens,
         paths,
@@ -106,7 +106,7 @@ pub extern "C" fn tree_editor_remove_at(
         (lent (now (ed .entry)) (now (plens .entry)) (now (paths .entry)) (now (tlens .entry)) (now (trees .entry)) (now (order .entry))) r
         (lent (now (ed .exit)) (now (plens .exit)) (now (paths .exit)) (now (tlens .exit)) (now (trees .exit)) (now (order .exit))) ⌝ }
 {
-    let d = numbered::edit::remove_at(
+    let d = adapter_numbers::edit::remove_at(
         *ed,
         plens,
         paths,
@@ -141,7 +141,7 @@ pub extern "C" fn tree_editor_remove(
         (lent (now (ed .entry)) (now (plens .entry)) (now (paths .entry)) (now (tlens .entry)) (now (trees .entry)) (now (order .entry))) r
         (lent (now (ed .exit)) (now (plens .exit)) (now (paths .exit)) (now (tlens .exit)) (now (trees .exit)) (now (order .exit))) ⌝ }
 {
-    let d = numbered::edit::remove(
+    let d = adapter_numbers::edit::remove(
         *ed,
         plens,
         paths,
@@ -176,7 +176,7 @@ pub extern "C" fn tree_editor_remove_leaf_at(
         (lent (now (ed .entry)) (now (plens .entry)) (now (paths .entry)) (now (tlens .entry)) (now (trees .entry)) (now (order .entry))) r
         (lent (now (ed .exit)) (now (plens .exit)) (now (paths .exit)) (now (tlens .exit)) (now (trees .exit)) (now (order .exit))) ⌝ }
 {
-    let d = numbered::edit::remove_leaf_at(
+    let d = adapter_numbers::edit::remove_leaf_at(
         *ed,
         plens,
         paths,
@@ -211,7 +211,7 @@ pub extern "C" fn tree_editor_remove_leaf(
         (lent (now (ed .entry)) (now (plens .entry)) (now (paths .entry)) (now (tlens .entry)) (now (trees .entry)) (now (order .entry))) r
         (lent (now (ed .exit)) (now (plens .exit)) (now (paths .exit)) (now (tlens .exit)) (now (trees .exit)) (now (order .exit))) ⌝ }
 {
-    let d = numbered::edit::remove_leaf(
+    let d = adapter_numbers::edit::remove_leaf(
         *ed,
         plens,
         paths,
@@ -245,7 +245,7 @@ pub extern "C" fn tree_editor_cursor_at(
         (lent (now (ed .entry)) (now (plens .entry)) (now (paths .entry)) (now (tlens .entry)) (now (trees .entry)) (now (order .entry))) r
         (lent (now (ed .exit)) (now (plens .exit)) (now (paths .exit)) (now (tlens .exit)) (now (trees .exit)) (now (order .exit))) ⌝ }
 {
-    let d = numbered::edit::cursor_at(
+    let d = adapter_numbers::edit::cursor_at(
         *ed,
         plens,
         paths,

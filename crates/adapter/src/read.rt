@@ -1,12 +1,12 @@
 // Calls that read, for C: the record goes by value.
 ghost use mathlib.Core.List.{[]};
 ghost use Rattle.model.specs.Bytes.{Bytes};
-ghost use Rattle.walk.specs.Lookups.{lookedAs};
+ghost use Rattle.editor_walk.specs.Lookups.{lookedAs};
 ghost use Rattle.editor.specs.Lent.{lent, Good};
 ghost use Rattle.adapter.specs.Reads.{Tells, Gives, Gets};
 use names::mode::Mode;
-use slots::Editor;
-use walk::look::Looked;
+use store_slots::Editor;
+use editor_walk::look::Looked;
 
 // The number that a lookup gives; the id of the entry goes to the front of the slice.
 fn given(found: Looked, id: &mut [u8]) -> u32
@@ -14,12 +14,12 @@ fn given(found: Looked, id: &mut [u8]) -> u32
 {
     match found {
         Looked::Missing => 0,
-        Looked::Refused(code) => edits::code::number(code) as u32,
+        Looked::Refused(code) => editor_terms::code::number(code) as u32,
         Looked::Found(kind, what) => {
             if id.len() < 20 {
                 return 11;
             }
-            let b = edits::id::bytes(what);
+            let b = editor_terms::id::bytes(what);
             names::write::put(id, 0, &b);
             Mode::of(kind).bits
         }
@@ -79,7 +79,7 @@ pub extern "C" fn tree_editor_holds(
 ) -> u8
     ensures { λ r. ⌜ Tells (Good (lent ed (now (plens .entry)) (now (paths .entry)) (now (tlens .entry)) (now (trees .entry)) (now (order .entry)))) r ⌝ }
 {
-    if store::holds::holds(ed, plens, paths, tlens, trees, order) {
+    if store_check::holds::holds(ed, plens, paths, tlens, trees, order) {
         return 1;
     }
     0

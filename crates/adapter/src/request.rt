@@ -1,7 +1,7 @@
 // Reading the open request, for C.
 ghost use Rattle.editor.specs.Lent.{lent};
-ghost use Rattle.numbered.specs.Asks.{slices, Asks};
-use slots::Editor;
+ghost use Rattle.adapter_numbers.specs.Asks.{slices, Asks};
+use store_slots::Editor;
 
 // Writes the raw tree that is requested and the path it belongs at to the fronts of the slices.
 #[no_mangle]
@@ -26,9 +26,9 @@ pub extern "C" fn tree_editor_request(
     if path.len() < 1024 {
         return 14;
     }
-    let a = writing::request::request(ed, plens, paths, tlens, trees, order, out);
+    let a = editor_write::request::request(ed, plens, paths, tlens, trees, order, out);
     let code = a.code;
     let len = a.len;
     let at = a.at;
-    numbered::told::told(code, len, at, path, lens)
+    adapter_numbers::told::told(code, len, at, path, lens)
 }

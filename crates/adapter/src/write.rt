@@ -3,9 +3,9 @@ ghost use Rattle.model.specs.Editor.{fromRoot, fromCursor};
 ghost use Rattle.model.specs.Formats.{sha1};
 ghost use Rattle.model.specs.Write.{begun, failed};
 ghost use Rattle.editor.specs.Lent.{lent, Does};
-ghost use Rattle.numbered.specs.Asks.{slices, AnswersAndAsks};
-ghost use Rattle.numbered.specs.Numbers.{Numbers, answerBy};
-use slots::Editor;
+ghost use Rattle.adapter_numbers.specs.Asks.{slices, AnswersAndAsks};
+ghost use Rattle.adapter_numbers.specs.Numbers.{Numbers, answerBy};
+use store_slots::Editor;
 
 // Begins a write from the root.
 #[no_mangle]
@@ -21,7 +21,7 @@ pub extern "C" fn tree_editor_begin(
         (lent (now (ed .entry)) (now (plens .entry)) (now (paths .entry)) (now (tlens .entry)) (now (trees .entry)) (now (order .entry))) r
         (lent (now (ed .exit)) (now (plens .exit)) (now (paths .exit)) (now (tlens .exit)) (now (trees .exit)) (now (order .exit))) ⌝ }
 {
-    let d = numbered::write::begin(*ed, plens, paths, tlens, trees, order);
+    let d = adapter_numbers::write::begin(*ed, plens, paths, tlens, trees, order);
     *ed = d.ed;
     d.code
 }
@@ -41,7 +41,7 @@ pub extern "C" fn tree_editor_begin_at(
         (lent (now (ed .entry)) (now (plens .entry)) (now (paths .entry)) (now (tlens .entry)) (now (trees .entry)) (now (order .entry))) r
         (lent (now (ed .exit)) (now (plens .exit)) (now (paths .exit)) (now (tlens .exit)) (now (trees .exit)) (now (order .exit))) ⌝ }
 {
-    let d = numbered::write::begin_at(*ed, plens, paths, tlens, trees, order, prefix);
+    let d = adapter_numbers::write::begin_at(*ed, plens, paths, tlens, trees, order, prefix);
     *ed = d.ed;
     d.code
 }
@@ -61,7 +61,7 @@ pub extern "C" fn tree_editor_answer(
         (lent (now (ed .entry)) (now (plens .entry)) (now (paths .entry)) (now (tlens .entry)) (now (trees .entry)) (now (order .entry))) r
         (lent (now (ed .exit)) (now (plens .exit)) (now (paths .exit)) (now (tlens .exit)) (now (trees .exit)) (now (order .exit))) ⌝ }
 {
-    let d = numbered::write::answer(*ed, plens, paths, tlens, trees, order, id);
+    let d = adapter_numbers::write::answer(*ed, plens, paths, tlens, trees, order, id);
     *ed = d.ed;
     d.code
 }
@@ -88,7 +88,7 @@ pub extern "C" fn tree_editor_answer_and_request(
         (lent (now (ed .exit)) (now (plens .exit)) (now (paths .exit)) (now (tlens .exit)) (now (trees .exit)) (now (order .exit)))
         (slices (now (out .exit)) (now (path .exit)) (now (lens .exit))) (now (next .exit)) ⌝ }
 {
-    let d = numbered::next::answer_and_request(
+    let d = adapter_numbers::next::answer_and_request(
         *ed,
         plens,
         paths,
@@ -119,7 +119,7 @@ pub extern "C" fn tree_editor_fail(
         (lent (now (ed .entry)) (now (plens .entry)) (now (paths .entry)) (now (tlens .entry)) (now (trees .entry)) (now (order .entry))) r
         (lent (now (ed .exit)) (now (plens .exit)) (now (paths .exit)) (now (tlens .exit)) (now (trees .exit)) (now (order .entry))) ⌝ }
 {
-    let d = numbered::write::fail(*ed, plens, paths, tlens, trees, order);
+    let d = adapter_numbers::write::fail(*ed, plens, paths, tlens, trees, order);
     *ed = d.ed;
     d.code
 }

@@ -27,26 +27,26 @@ use Rattle.model.specs.AllCalls.{GoodEdit}
 use Rattle.model.proofs.EditKeeps.{edited-valid}
 use Rattle.model.proofs.LowNumbers.{measured-low}
 use Rattle.model.proofs.MeasureRight.{measure-code}
-use Rattle.runs.specs.Digits.{digits}
-use Rattle.runs.specs.Runs.{cut}
-use Rattle.runs.proofs.Laws.{length-cut}
-use Rattle.slots.specs.View.{slotsOf, gather, heldAt, viewOf, asideOf, stackedOf, writeOf, editorOf, pathOf, Laid, treeRoom, Closed}
-use Rattle.slots.specs.declared.Editor.{Editor}
-use Rattle.slots.proofs.Relaid.{find-slot}
-use Rattle.store.specs.Decides.{Decides}
-use Rattle.store.specs.Stored.{Stored}
-use Rattle.store.proofs.Deciding as deciding
-use Rattle.store.proofs.StoredLaws.{sha1-width, sha1-room}
-use Rattle.edits.specs.Answers.{codeNumber}
-use Rattle.edits.specs.Edits.{asEdit}
-use Rattle.edits.specs.declared.code.Code.{Code}
-use Rattle.edits.specs.declared.edit.Edit.{Edit as Asked}
-use Rattle.edits.specs.declared.edit.Edit.the-variants.{Remove, Upsert}
-use Rattle.edits.specs.Ids.{idBytes}
-use Rattle.edits.proofs.IdLaws.{length-id, null-id}
-use Rattle.change.specs.Steps.{Standing, editorAt, SettledAs}
-use Rattle.change.specs.declared.pass.Answer.{Answer}
-use Rattle.change.proofs.SettleLaws.{short-path}
+use Rattle.store_runs.specs.Digits.{digits}
+use Rattle.store_runs.specs.Runs.{cut}
+use Rattle.store_runs.proofs.Laws.{length-cut}
+use Rattle.store_slots.specs.View.{slotsOf, gather, heldAt, viewOf, asideOf, stackedOf, writeOf, editorOf, pathOf, Laid, treeRoom, Closed}
+use Rattle.store_slots.specs.declared.Editor.{Editor}
+use Rattle.store_slots.proofs.Relaid.{find-slot}
+use Rattle.store_check.specs.Decides.{Decides}
+use Rattle.store_check.specs.Stored.{Stored}
+use Rattle.store_check.proofs.Deciding as deciding
+use Rattle.store_check.proofs.StoredLaws.{sha1-width, sha1-room}
+use Rattle.editor_terms.specs.Answers.{codeNumber}
+use Rattle.editor_terms.specs.Edits.{asEdit}
+use Rattle.editor_terms.specs.declared.code.Code.{Code}
+use Rattle.editor_terms.specs.declared.edit.Edit.{Edit as Asked}
+use Rattle.editor_terms.specs.declared.edit.Edit.the-variants.{Remove, Upsert}
+use Rattle.editor_terms.specs.Ids.{idBytes}
+use Rattle.editor_terms.proofs.IdLaws.{length-id, null-id}
+use Rattle.editor_change.specs.Steps.{Standing, editorAt, SettledAs}
+use Rattle.editor_change.specs.declared.pass.Answer.{Answer}
+use Rattle.editor_change.proofs.SettleLaws.{short-path}
 use Rattle.editor.specs.Edited.{EditedAs}
 use Rattle.editor.specs.Lent.{Lent, lent, Good, viewed, Behind, Does}
 use Rattle.editor.specs.Looks.{ReadyIs}

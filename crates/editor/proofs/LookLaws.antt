@@ -14,18 +14,18 @@ use Rattle.model.specs.Editor.{Held, at, Cache, treeAt}
 use Rattle.model.specs.Editor.{Editor as Model}
 use Rattle.model.specs.Formats.{sha1}
 use Rattle.model.specs.Lookup.{Looked, found, missing, refusal, pickLooked, lookOn, look, looked}
-use Rattle.runs.specs.Digits.{digits}
-use Rattle.runs.specs.Runs.{cut}
-use Rattle.runs.specs.declared.runs.Found.{Found}
-use Rattle.runs.specs.declared.runs.Found.the-variants.{At, Nothing}
-use Rattle.runs.proofs.DigitLaws.{length-digits}
-use Rattle.runs.proofs.Laws.{length-cut}
-use Rattle.slots.specs.View.{slotsOf, gather, heldAt, viewOf, asideOf, stackedOf, writeOf, editorOf, SlotIs, Used, pathOf, Laid, treeRoom}
-use Rattle.slots.specs.declared.Editor.{Editor}
-use Rattle.store.specs.Decides.{Decides}
-use Rattle.store.specs.Stored.{Stored}
-use Rattle.store.proofs.Deciding as deciding
-use Rattle.store.proofs.StoredLaws.{sha1-width, sha1-room}
+use Rattle.store_runs.specs.Digits.{digits}
+use Rattle.store_runs.specs.Runs.{cut}
+use Rattle.store_runs.specs.declared.runs.Found.{Found}
+use Rattle.store_runs.specs.declared.runs.Found.the-variants.{At, Nothing}
+use Rattle.store_runs.proofs.DigitLaws.{length-digits}
+use Rattle.store_runs.proofs.Laws.{length-cut}
+use Rattle.store_slots.specs.View.{slotsOf, gather, heldAt, viewOf, asideOf, stackedOf, writeOf, editorOf, SlotIs, Used, pathOf, Laid, treeRoom}
+use Rattle.store_slots.specs.declared.Editor.{Editor}
+use Rattle.store_check.specs.Decides.{Decides}
+use Rattle.store_check.specs.Stored.{Stored}
+use Rattle.store_check.proofs.Deciding as deciding
+use Rattle.store_check.proofs.StoredLaws.{sha1-width, sha1-room}
 use Rattle.editor.specs.Lent.{Lent, Good, viewed}
 use Rattle.editor.specs.Looks.{Looks, ReadyIs}
 use Rattle.editor.specs.declared.ready.Ready.{Ready}

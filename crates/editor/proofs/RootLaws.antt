@@ -23,15 +23,15 @@ use Rattle.names.specs.Check.{sizeOf}
 use Rattle.names.specs.Answers.{checkedAs}
 use Rattle.names.specs.declared.tree.Checked.{Checked}
 use Rattle.names.specs.declared.tree.Checked.the-variants.{Broken}
-use Rattle.runs.specs.Digits.{digits}
-use Rattle.runs.specs.Runs.{cut}
-use Rattle.slots.specs.View.{slotsOf, gather, heldAs, heldAt, viewOf, asideOf, stackedOf, writeOf, editorOf, Laid, Holds, SameWrite, treeRoom, fresh}
-use Rattle.slots.specs.declared.Editor.{Editor}
-use Rattle.trees.proofs.Loads.{takes, as-many, as-long}
-use Rattle.walk.proofs.LandLaws.{size-none}
-use Rattle.store.specs.Decides.{Decides}
-use Rattle.store.proofs.Deciding as deciding
-use Rattle.store.proofs.StoredLaws.{sha1-width, sha1-room}
+use Rattle.store_runs.specs.Digits.{digits}
+use Rattle.store_runs.specs.Runs.{cut}
+use Rattle.store_slots.specs.View.{slotsOf, gather, heldAs, heldAt, viewOf, asideOf, stackedOf, writeOf, editorOf, Laid, Holds, SameWrite, treeRoom, fresh}
+use Rattle.store_slots.specs.declared.Editor.{Editor}
+use Rattle.store_trees.proofs.Loads.{takes, as-many, as-long}
+use Rattle.editor_walk.proofs.LandLaws.{size-none}
+use Rattle.store_check.specs.Decides.{Decides}
+use Rattle.store_check.proofs.Deciding as deciding
+use Rattle.store_check.proofs.StoredLaws.{sha1-width, sha1-room}
 use Rattle.editor.specs.Lent.{Lent, lent, Long, Good, viewed, Behind, Does}
 use Rattle.editor.specs.Roots.{Roots, Makes}
 use Rattle.editor.proofs.EditLaws.{no-writing}

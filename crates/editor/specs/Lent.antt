@@ -6,9 +6,9 @@ use lib.ListN.{length, take, drop}
 use Rattle.model.specs.Calls.{Answer}
 use Rattle.model.specs.Editor.{Editor as Model}
 use Rattle.model.specs.Formats.{sha1}
-use Rattle.slots.specs.View.{treeRoom, editorOf}
-use Rattle.slots.specs.declared.Editor.{Editor}
-use Rattle.store.specs.Stored.{Stored}
+use Rattle.store_slots.specs.View.{treeRoom, editorOf}
+use Rattle.store_slots.specs.declared.Editor.{Editor}
+use Rattle.store_check.specs.Stored.{Stored}
 
 -- the record, and the slices as they are lent, which may be longer than a store
 pub record Lent : Type 0 where

@@ -8,20 +8,20 @@ ghost use Rattle.model.specs.Formats.{sha1};
 ghost use Rattle.model.specs.Calls as model;
 ghost use Rattle.model.specs.Walk as walk;
 ghost use Rattle.names.specs.Answers.{asMode};
-ghost use Rattle.edits.specs.Answers.{codeNumber};
-ghost use Rattle.edits.specs.Edits.{asEdit};
-ghost use Rattle.edits.specs.Ids.{idBytes};
-ghost use Rattle.edits.specs.Objects.{tableOf};
+ghost use Rattle.editor_terms.specs.Answers.{codeNumber};
+ghost use Rattle.editor_terms.specs.Edits.{asEdit};
+ghost use Rattle.editor_terms.specs.Ids.{idBytes};
+ghost use Rattle.editor_terms.specs.Objects.{tableOf};
 ghost use Rattle.editor.specs.Lent.{lent, Does};
 ghost use Rattle.editor.specs.Looks.{prefixOf, cursorAt};
 use crate::cursor::Cursor;
-use change::pass::Answer;
-use edits::code::Code;
-use edits::edit::Edit;
-use edits::edit::RemoveKind;
-use edits::id::Id;
+use editor_change::pass::Answer;
+use editor_terms::code::Code;
+use editor_terms::edit::Edit;
+use editor_terms::edit::RemoveKind;
+use editor_terms::id::Id;
 use names::mode::EntryKind;
-use slots::Editor;
+use store_slots::Editor;
 
 // An edit at a path below a cursor.
 fn edited(
@@ -182,7 +182,7 @@ fn placed(path: &[u8], code: Code) -> Cursor
     ensures { λ r. ⌜ (codeNumber code ≡ 0 → prefixOf r ≡ now (path .entry)) × ((codeNumber code ≡ 0 → ⊥) → prefixOf r ≡ [])
         × (codeNumber code ≡ 0 → r ≡ cursorAt (now (path .entry))) × ((codeNumber code ≡ 0 → ⊥) → r ≡ cursorAt []) ⌝ }
 {
-    if edits::code::number(code) != 0 {
+    if editor_terms::code::number(code) != 0 {
         return crate::cursor::to_cursor();
     }
     crate::cursor::at(path)
@@ -207,7 +207,7 @@ pub fn cursor_at(
         × (codeNumber (r .code) ≡ 0 → prefixOf (r .cursor) ≡ now (path .entry)) × ((codeNumber (r .code) ≡ 0 → ⊥) → prefixOf (r .cursor) ≡ [])
         × (codeNumber (r .code) ≡ 0 → r .cursor ≡ cursorAt (now (path .entry))) × ((codeNumber (r .code) ≡ 0 → ⊥) → r .cursor ≡ cursorAt []) ⌝ }
 {
-    let edit = Edit::Upsert(EntryKind::Tree, edits::id::NULL);
+    let edit = Edit::Upsert(EntryKind::Tree, editor_terms::id::NULL);
     let a = crate::edit::edited(
         ed,
         plens,

@@ -4,11 +4,11 @@ ghost use mathlib.Core.List.{[]};
 ghost use Prim.Native.Nat.{_≤_};
 ghost use lib.ListN.{take};
 ghost use Rattle.model.specs.Paths.{base};
-ghost use Rattle.walk.specs.Lookups.{lookedAs};
+ghost use Rattle.editor_walk.specs.Lookups.{lookedAs};
 ghost use Rattle.editor.specs.Lent.{lent};
 ghost use Rattle.editor.specs.Looks.{Looks, standing, prefixOf, cursorAt};
-use slots::Editor;
-use walk::look::Looked;
+use store_slots::Editor;
+use editor_walk::look::Looked;
 
 pub struct Cursor {
     pub prefix: [u8; 1024],

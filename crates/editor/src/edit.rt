@@ -8,22 +8,22 @@ ghost use Rattle.model.specs.Valid.{valid};
 ghost use Rattle.model.specs.Calls as model;
 ghost use Rattle.model.specs.Walk as walk;
 ghost use Rattle.names.specs.Answers.{asMode};
-ghost use Rattle.edits.specs.Ids.{idBytes};
-ghost use Rattle.slots.specs.View.{Laid, viewOf, editorOf};
-ghost use Rattle.change.specs.Steps.{editorAt};
-ghost use Rattle.edits.specs.Answers.{codeNumber};
-ghost use Rattle.edits.specs.Edits.{asEdit};
-ghost use Rattle.edits.specs.Objects.{tableOf};
+ghost use Rattle.editor_terms.specs.Ids.{idBytes};
+ghost use Rattle.store_slots.specs.View.{Laid, viewOf, editorOf};
+ghost use Rattle.editor_change.specs.Steps.{editorAt};
+ghost use Rattle.editor_terms.specs.Answers.{codeNumber};
+ghost use Rattle.editor_terms.specs.Edits.{asEdit};
+ghost use Rattle.editor_terms.specs.Objects.{tableOf};
 ghost use Rattle.editor.specs.Lent.{lent, Does};
 ghost use Rattle.editor.specs.Edited.{EditedAs};
 use crate::ready::Ready;
-use change::pass::Answer;
-use edits::code::Code;
-use edits::edit::Edit;
-use edits::edit::RemoveKind;
-use edits::id::Id;
+use editor_change::pass::Answer;
+use editor_terms::code::Code;
+use editor_terms::edit::Edit;
+use editor_terms::edit::RemoveKind;
+use editor_terms::id::Id;
 use names::mode::EntryKind;
-use slots::Editor;
+use store_slots::Editor;
 
 // An edit at a path below a prefix, over slices as long as a store, which hold an editor.
 fn edit_held(
@@ -52,7 +52,7 @@ fn edit_held(
             ed,
         };
     }
-    if !edits::table::is_good(ids, ends, raws) {
+    if !editor_terms::table::is_good(ids, ends, raws) {
         return Answer {
             code: Code::BadTable,
             ed,
@@ -69,8 +69,8 @@ fn edit_held(
         },
         Ready::In(slot) => {
             let mut buf = [0u8; 1280];
-            let n = edits::path::put_full(&mut buf, prefix, path);
-            change::pass::settle(
+            let n = editor_terms::path::put_full(&mut buf, prefix, path);
+            editor_change::pass::settle(
                 ed,
                 plens,
                 paths,
@@ -109,7 +109,7 @@ pub fn edited(
         (lent ed (now (plens .entry)) (now (paths .entry)) (now (tlens .entry)) (now (trees .entry)) (now (order .entry))) (codeNumber (a .code))
         (lent (a .ed) (now (plens .exit)) (now (paths .exit)) (now (tlens .exit)) (now (trees .exit)) (now (order .exit))) ⌝ }
 {
-    if !store::holds::holds(ed, plens, paths, tlens, trees, order) {
+    if !store_check::holds::holds(ed, plens, paths, tlens, trees, order) {
         return Answer {
             code: Code::StoreDamaged,
             ed,

@@ -4,14 +4,14 @@ ghost use mathlib.Core.List.{List, []};
 ghost use Prim.Native.Nat.{ℕ};
 ghost use Rattle.model.specs.Paths.{base};
 ghost use Rattle.model.specs.Lookup as model;
-ghost use Rattle.slots.specs.View.{Laid, editorOf};
-ghost use Rattle.walk.specs.Lookups.{lookedAs};
+ghost use Rattle.store_slots.specs.View.{Laid, editorOf};
+ghost use Rattle.editor_walk.specs.Lookups.{lookedAs};
 ghost use Rattle.editor.specs.Lent.{lent};
 ghost use Rattle.editor.specs.Looks.{Looks};
 use crate::ready::Ready;
-use edits::code::Code;
-use slots::Editor;
-use walk::look::Looked;
+use editor_terms::code::Code;
+use store_slots::Editor;
+use editor_walk::look::Looked;
 
 // The entry at a path below a prefix, over slices as long as a store, which hold an editor.
 fn look_held(
@@ -35,8 +35,8 @@ fn look_held(
         Ready::Refused => Looked::Refused(Code::PathRefused),
         Ready::In(slot) => {
             let mut buf = [0u8; 1280];
-            let n = edits::path::put_full(&mut buf, prefix, path);
-            walk::look::look(ed, plens, paths, tlens, trees, &buf[..n], path, slot)
+            let n = editor_terms::path::put_full(&mut buf, prefix, path);
+            editor_walk::look::look(ed, plens, paths, tlens, trees, &buf[..n], path, slot)
         }
     }
 }
@@ -54,7 +54,7 @@ pub fn looked(
 ) -> Looked
     ensures { λ r. ⌜ Looks (now (prefix .entry)) (now (path .entry)) (lent ed (now (plens .entry)) (now (paths .entry)) (now (tlens .entry)) (now (trees .entry)) (now (order .entry))) (lookedAs (base (now (path .entry))) r) ⌝ }
 {
-    if !store::holds::holds(ed, plens, paths, tlens, trees, order) {
+    if !store_check::holds::holds(ed, plens, paths, tlens, trees, order) {
         return Looked::Refused(Code::StoreDamaged);
     }
     look_held(

@@ -9,14 +9,14 @@ ghost use Rattle.model.specs.Tree.{Tree};
 ghost use Rattle.model.specs.Calls.{rootOnly, setRoot};
 ghost use Rattle.model.specs.Formats.{sha1};
 ghost use Rattle.names.specs.Check.{sizeOf};
-ghost use Rattle.slots.specs.View.{treeRoom, editorOf, Holds};
-ghost use Rattle.edits.specs.Answers.{codeNumber};
-ghost use Rattle.store.specs.Decides.{Decides};
+ghost use Rattle.store_slots.specs.View.{treeRoom, editorOf, Holds};
+ghost use Rattle.editor_terms.specs.Answers.{codeNumber};
+ghost use Rattle.store_check.specs.Decides.{Decides};
 ghost use Rattle.editor.specs.Lent.{lent, Long, Does};
 ghost use Rattle.editor.specs.Roots.{Roots, Makes};
-use edits::code::Code;
+use editor_terms::code::Code;
 use names::tree::Checked;
-use slots::Editor;
+use store_slots::Editor;
 
 // What a call that may change the store answers: its number, and the record then.
 pub struct Answer {
@@ -40,9 +40,9 @@ fn root_only(
         → Holds sha1 q (now (plens .exit)) (now (paths .exit)) (now (tlens .exit)) (now (trees .exit)) order
         × (editorOf 20 q (now (plens .exit)) (now (paths .exit)) (now (tlens .exit)) (now (trees .exit)) order ≡ rootOnly t)) ⌝ }
 {
-    let none = slots::drop_all(plens, paths, tlens, trees, 20);
+    let none = store_slots::drop_all(plens, paths, tlens, trees, 20);
     let root = names::part::front(raw, 0);
-    let one = trees::load::load(
+    let one = store_trees::load::load(
         none,
         plens,
         paths,
@@ -166,7 +166,7 @@ pub fn set_root(
     ensures { λ r. ⌜ Does (setRoot sha1 (now (raw .entry))) (lent ed (now (plens .entry)) (now (paths .entry)) (now (tlens .entry)) (now (trees .entry)) (now (order .entry))) (codeNumber (r .code))
         (lent (r .ed) (now (plens .exit)) (now (paths .exit)) (now (tlens .exit)) (now (trees .exit)) (now (order .entry))) ⌝ }
 {
-    if !store::holds::holds(ed, plens, paths, tlens, trees, order) {
+    if !store_check::holds::holds(ed, plens, paths, tlens, trees, order) {
         return Answer {
             code: Code::StoreDamaged,
             ed,

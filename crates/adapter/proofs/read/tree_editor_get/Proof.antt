@@ -1,6 +1,6 @@
 -- `adapter::read::tree_editor_get` meets its contract: it tells what the lookup gives. Assumes nothing.
 use Rattle.model.specs.Paths.{base}
-use Rattle.walk.specs.Lookups.{lookedAs}
+use Rattle.editor_walk.specs.Lookups.{lookedAs}
 use borrow.Author.Needs.{needs}
 use Rattle.adapter.proofs.read.tree_editor_get.Statement.{statement}
 use Rattle.adapter.proofs.read.tree_editor_get.Tie as tie

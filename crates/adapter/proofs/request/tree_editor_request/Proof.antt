@@ -1,8 +1,8 @@
 -- `adapter::request::tree_editor_request` meets its contract: slices without room are refused, and the others get what is told of the request. Assumes nothing.
 use native.Mathlib.Omega.{arith}
 use Rattle.editor.specs.Lent.{lent}
-use Rattle.numbered.specs.Asks.{slices}
-use Rattle.numbered.proofs.AskLaws.{no-room, asks, reads}
+use Rattle.adapter_numbers.specs.Asks.{slices}
+use Rattle.adapter_numbers.proofs.AskLaws.{no-room, asks, reads}
 use borrow.Author.Needs.{needs}
 use Rattle.adapter.proofs.request.tree_editor_request.Statement.{statement}
 use Rattle.adapter.proofs.request.tree_editor_request.Tie as tie

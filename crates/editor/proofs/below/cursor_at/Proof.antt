@@ -1,6 +1,6 @@
 -- `editor::below::cursor_at` meets its contract: it is the edit that goes down at its end, and a path that is accepted is short. Assumes nothing.
 use mathlib.Core.Bool.{true}
-use Rattle.edits.specs.Objects.{tableOf}
+use Rattle.editor_terms.specs.Objects.{tableOf}
 use Rattle.editor.proofs.EditLaws.{opened-short, opened-does}
 use borrow.Author.Needs.{needs}
 use Rattle.editor.proofs.below.cursor_at.Statement.{statement}

@@ -4,8 +4,8 @@ use Prim.Native.Nat.{_≤_}
 use lib.ListN.{length}
 use lib.Seq.{length-take-le}
 use native.Mathlib.Omega.{arith}
-use Rattle.edits.specs.Edits.{asEdit}
-use Rattle.edits.specs.Objects.{tableOf}
+use Rattle.editor_terms.specs.Edits.{asEdit}
+use Rattle.editor_terms.specs.Objects.{tableOf}
 use Rattle.editor.specs.Looks.{prefixOf}
 use Rattle.editor.proofs.EditLaws.{below-does}
 use borrow.Author.Needs.{needs}

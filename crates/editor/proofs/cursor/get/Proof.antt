@@ -6,7 +6,7 @@ use native.Mathlib.Omega.{arith}
 use Prim.Native.Nat.{_≤_}
 use Rattle.model.specs.Bytes.{Bytes}
 use Rattle.model.specs.Paths.{base}
-use Rattle.walk.specs.Lookups.{lookedAs}
+use Rattle.editor_walk.specs.Lookups.{lookedAs}
 use Rattle.editor.specs.Lent.{lent}
 use Rattle.editor.specs.Looks.{Looks}
 use borrow.Author.Needs.{needs}

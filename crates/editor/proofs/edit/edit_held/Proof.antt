@@ -5,10 +5,10 @@ use native.Mathlib.Omega.{arith}
 use borrow.Author.Tests.{not-true, not-false}
 use Rattle.model.specs.Bytes.{Bytes}
 use Rattle.model.specs.Paths.{full, refused}
-use Rattle.edits.specs.Edits.{asEdit}
-use Rattle.edits.specs.Objects.{tableOf}
-use Rattle.edits.specs.declared.code.Code.the-variants.{WriteOpen, BadTable, CursorStale, PathRefused}
-use Rattle.edits.proofs.FrontLaws.{full-short}
+use Rattle.editor_terms.specs.Edits.{asEdit}
+use Rattle.editor_terms.specs.Objects.{tableOf}
+use Rattle.editor_terms.specs.declared.code.Code.the-variants.{WriteOpen, BadTable, CursorStale, PathRefused}
+use Rattle.editor_terms.proofs.FrontLaws.{full-short}
 use Rattle.editor.proofs.LookLaws.{begun, front-within}
 use Rattle.editor.proofs.EditLaws.{is-open, bad-table, is-stale, is-refused, is-settled}
 use borrow.Author.Needs.{needs}

@@ -3,8 +3,8 @@ use mathlib.Core.Path.{refl, sym}
 use lib.ListN.{take}
 use lib.Seq.{length-take-le}
 use borrow.Author.Tests.{not-true, not-false}
-use Rattle.edits.specs.Objects.{tableOf}
-use Rattle.edits.specs.declared.code.Code.the-variants.{StoreDamaged}
+use Rattle.editor_terms.specs.Objects.{tableOf}
+use Rattle.editor_terms.specs.declared.code.Code.the-variants.{StoreDamaged}
 use Rattle.editor.proofs.LookLaws.{trees-long, front-laid, front-closed}
 use Rattle.editor.proofs.EditLaws.{front-valid, damaged, done}
 use borrow.Author.Needs.{needs}

@@ -4,7 +4,7 @@ use lib.ListN.{take}
 use lib.Seq.{length-take-le}
 use borrow.Author.Tests.{not-true, not-false}
 use Rattle.model.specs.Paths.{base}
-use Rattle.walk.specs.Lookups.{lookedAs}
+use Rattle.editor_walk.specs.Lookups.{lookedAs}
 use Rattle.editor.specs.Lent.{lent}
 use Rattle.editor.proofs.LookLaws.{trees-long, front-laid, front-closed, damaged, answers}
 use borrow.Author.Needs.{needs}

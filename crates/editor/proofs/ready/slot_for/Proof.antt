@@ -1,6 +1,6 @@
 -- `editor::ready::slot_for` meets its contract: the slot of the prefix is looked for first, then the path is judged. Assumes nothing.
-use Rattle.runs.specs.Digits.{digits}
-use Rattle.runs.specs.Runs.{cut}
+use Rattle.store_runs.specs.Digits.{digits}
+use Rattle.store_runs.specs.Runs.{cut}
 use Rattle.editor.proofs.LookLaws.{no-slot, no-path, slot-in}
 use borrow.Author.Needs.{needs}
 use Rattle.editor.proofs.ready.slot_for.Statement.{statement}

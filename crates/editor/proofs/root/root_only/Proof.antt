@@ -1,9 +1,9 @@
 -- `editor::root::root_only` meets its contract: every tree is dropped, then the root is cached. Assumes nothing.
 use mathlib.Core.Path.{sym, ap, _∙_, subst}
 use native.Mathlib.Omega.{arith}
-use Rattle.slots.specs.View.{SameWrite}
-use Rattle.slots.specs.declared.Editor.{Editor}
-use Rattle.trees.proofs.Loads.{as-many, as-long}
+use Rattle.store_slots.specs.View.{SameWrite}
+use Rattle.store_slots.specs.declared.Editor.{Editor}
+use Rattle.store_trees.proofs.Loads.{as-many, as-long}
 use Rattle.editor.proofs.RootLaws.{one-fits, root-fits, no-root-yet, root-cached, root-view, root-holds}
 use borrow.Author.Needs.{needs}
 use Rattle.editor.proofs.root.root_only.Statement.{statement}

@@ -1,0 +1,38 @@
+-- `adapter_numbers::edit::edited` meets its contract: it is the call of that name, with the number of its answer. Assumes nothing.
+use Rattle.adapter_numbers.proofs.NumberLaws.{does-number}
+use borrow.Author.Needs.{needs}
+use Rattle.adapter_numbers.proofs.edit.edited.Statement.{statement}
+use Rattle.adapter_numbers.proofs.edit.edited.Tie as tie
+
+edited-requires : tie.Need-edited-requires
+edited-requires c κs = search needs
+
+number-requires : tie.Need-number-requires
+number-requires c κs = search needs
+
+same-length : tie.Need-same-length
+same-length c = search needs
+
+same-length-2 : tie.Need-same-length-2
+same-length-2 c = search needs
+
+same-length-3 : tie.Need-same-length-3
+same-length-3 c = search needs
+
+same-length-4 : tie.Need-same-length-4
+same-length-4 c = search needs
+
+returns : tie.Need-returns
+returns c = does-number (c .number .ensures) (c .before .before .before .before .before .before .before .before .before .before .edited .ensures)
+
+pub edited-spec : {M : Type 1} → statement M
+edited-spec =
+    tie.close
+    (tie.spec
+    edited-requires
+    number-requires
+    same-length
+    same-length-2
+    same-length-3
+    same-length-4
+    returns)

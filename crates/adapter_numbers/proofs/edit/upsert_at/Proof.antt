@@ -1,0 +1,71 @@
+-- `adapter_numbers::edit::upsert_at` meets its contract: an id that has not 20 bytes and a mode that is none of the five mean no upsert, and any other means the one that is made. Assumes nothing.
+use Rattle.editor_terms.specs.Objects.{tableOf}
+use Rattle.editor.specs.Lent.{lent}
+use Rattle.adapter_numbers.proofs.NumberLaws.{bad-id, bad-mode, good-put}
+use borrow.Author.Needs.{needs}
+use Rattle.adapter_numbers.proofs.edit.upsert_at.Statement.{statement}
+use Rattle.adapter_numbers.proofs.edit.upsert_at.Tie as tie
+
+returns : tie.Need-returns
+returns c =
+    let a = c .before .before .before .before .before .before .before .before .before .before .before .before .args in
+    bad-id (tableOf (a .ids .now) (a .ends .now) (a .raws .now)) (a .mode) (a .id .now) (a .prefix .now) (a .path .now) (lent (a .ed) (a .plens .now) (a .paths .now) (a .tlens .now) (a .trees .now) (a .order .now)) (c .if1 .taken)
+
+kind-requires : tie.Need-kind-requires
+kind-requires c κs = search needs
+
+enum-told : tie.Need-enum-told
+enum-told c = search needs
+
+enum-known-kind : tie.Need-enum-known-kind
+enum-known-kind c = search needs
+
+id-at-requires : tie.Need-id-at-requires
+id-at-requires c κs = search needs
+
+edited-requires : tie.Need-edited-requires
+edited-requires c κs = search needs
+
+returns-2 : tie.Need-returns-2
+returns-2 c =
+    let k = c .before .before in
+    let a = k .before .before .before .before .before .before .before .before .before .before .before .before .before .args in
+    bad-mode (tableOf (a .ids .now) (a .ends .now) (a .raws .now)) (a .mode) (a .id .now) (a .prefix .now) (a .path .now) (lent (a .ed) (a .plens .now) (a .paths .now) (a .tlens .now) (a .trees .now) (a .order .now)) _ (k .before .if1 .left) (k .kind .ensures) (c .enum-told .given .1)
+
+same-length : tie.Need-same-length
+same-length c = search needs
+
+same-length-2 : tie.Need-same-length-2
+same-length-2 c = search needs
+
+same-length-3 : tie.Need-same-length-3
+same-length-3 c = search needs
+
+same-length-4 : tie.Need-same-length-4
+same-length-4 c = search needs
+
+returns-3 : tie.Need-returns-3
+returns-3 c =
+    let z = c .before .before .before .before .before .before .before .before in
+    let i = z .before .before .before .before .before in
+    let v = i .before .before in
+    let k = v .before .before in
+    let a = k .before .before .before .before .before .before .before .before .before .before .before .before .before .args in
+    good-put (tableOf (a .ids .now) (a .ends .now) (a .raws .now)) (a .mode) (a .id .now) (a .prefix .now) (a .path .now) (lent (a .ed) (a .plens .now) (a .paths .now) (a .tlens .now) (a .trees .now) (a .order .now)) _ _ _ _ _ (k .before .if1 .left) (k .kind .ensures) (v .kind2 .given .1) (i .id-at .ensures) (z .edited .ensures)
+
+pub upsert-at-spec : {M : Type 1} → statement M
+upsert-at-spec =
+    tie.close
+    (tie.spec
+    returns
+    kind-requires
+    enum-told
+    enum-known-kind
+    id-at-requires
+    edited-requires
+    returns-2
+    same-length
+    same-length-2
+    same-length-3
+    same-length-4
+    returns-3)

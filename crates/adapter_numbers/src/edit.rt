@@ -1,0 +1,299 @@
+// Edits, and the opening of a cursor.
+ghost use mathlib.Core.Bool.{false};
+ghost use mathlib.Core.List.{[]};
+ghost use Rattle.model.specs.Formats.{sha1};
+ghost use Rattle.model.specs.Calls as model;
+ghost use Rattle.model.specs.Walk as walk;
+ghost use Rattle.editor_terms.specs.Edits.{asEdit};
+ghost use Rattle.editor_terms.specs.Objects.{tableOf};
+ghost use Rattle.editor.specs.Lent.{lent, Does};
+ghost use Rattle.adapter_numbers.specs.Numbers.{Numbers, putBy};
+use crate::Numbered;
+use editor_terms::edit::Edit;
+use editor_terms::edit::RemoveKind;
+use names::mode::Mode;
+use names::mode::ModeRead;
+use store_slots::Editor;
+
+// An edit at a path below a prefix.
+fn edited(
+    ed: Editor,
+    plens: &mut [u64],
+    paths: &mut [u8],
+    tlens: &mut [u64],
+    trees: &mut [u8],
+    order: &[u64],
+    ids: &[u8],
+    ends: &[u32],
+    raws: &[u8],
+    prefix: &[u8],
+    path: &[u8],
+    edit: Edit,
+) -> Numbered
+    ensures { λ r. ⌜ Does (model.edited sha1 (tableOf (now (ids .entry)) (now (ends .entry)) (now (raws .entry))) (asEdit edit) false (now (prefix .entry)) (now (path .entry)))
+        (lent ed (now (plens .entry)) (now (paths .entry)) (now (tlens .entry)) (now (trees .entry)) (now (order .entry))) (r .code)
+        (lent (r .ed) (now (plens .exit)) (now (paths .exit)) (now (tlens .exit)) (now (trees .exit)) (now (order .exit))) ⌝ }
+{
+    let a = editor::edit::edited(
+        ed,
+        plens,
+        paths,
+        tlens,
+        trees,
+        order,
+        ids,
+        ends,
+        raws,
+        prefix,
+        path,
+        edit,
+        false,
+    );
+    let code = a.code;
+    let now = a.ed;
+    Numbered {
+        code: editor_terms::code::number(code),
+        ed: now,
+    }
+}
+
+// Sets the entry at a path below a prefix: 14 where the mode is none of the five, or the id has not 20 bytes.
+pub fn upsert_at(
+    ed: Editor,
+    plens: &mut [u64],
+    paths: &mut [u8],
+    tlens: &mut [u64],
+    trees: &mut [u8],
+    order: &[u64],
+    ids: &[u8],
+    ends: &[u32],
+    raws: &[u8],
+    prefix: &[u8],
+    path: &[u8],
+    id: &[u8],
+    mode: u32,
+) -> Numbered
+    ensures { λ r. ⌜ Numbers (putBy (tableOf (now (ids .entry)) (now (ends .entry)) (now (raws .entry))) mode (now (id .entry)) (now (prefix .entry)) (now (path .entry)))
+        (lent ed (now (plens .entry)) (now (paths .entry)) (now (tlens .entry)) (now (trees .entry)) (now (order .entry))) (r .code)
+        (lent (r .ed) (now (plens .exit)) (now (paths .exit)) (now (tlens .exit)) (now (trees .exit)) (now (order .exit))) ⌝ }
+{
+    if id.len() != 20 {
+        return Numbered { code: 14, ed };
+    }
+    match (Mode { bits: mode }).kind() {
+        ModeRead::Refused => Numbered { code: 14, ed },
+        ModeRead::Kind(kind) => {
+            let edit = Edit::Upsert(kind, editor_terms::id::id_at(id, 0));
+            edited(
+                ed,
+                plens,
+                paths,
+                tlens,
+                trees,
+                order,
+                ids,
+                ends,
+                raws,
+                prefix,
+                path,
+                edit,
+            )
+        }
+    }
+}
+
+// Sets the entry at a path.
+pub fn upsert(
+    ed: Editor,
+    plens: &mut [u64],
+    paths: &mut [u8],
+    tlens: &mut [u64],
+    trees: &mut [u8],
+    order: &[u64],
+    ids: &[u8],
+    ends: &[u32],
+    raws: &[u8],
+    path: &[u8],
+    id: &[u8],
+    mode: u32,
+) -> Numbered
+    ensures { λ r. ⌜ Numbers (putBy (tableOf (now (ids .entry)) (now (ends .entry)) (now (raws .entry))) mode (now (id .entry)) [] (now (path .entry)))
+        (lent ed (now (plens .entry)) (now (paths .entry)) (now (tlens .entry)) (now (trees .entry)) (now (order .entry))) (r .code)
+        (lent (r .ed) (now (plens .exit)) (now (paths .exit)) (now (tlens .exit)) (now (trees .exit)) (now (order .exit))) ⌝ }
+{
+    upsert_at(
+        ed,
+        plens,
+        paths,
+        tlens,
+        trees,
+        order,
+        ids,
+        ends,
+        raws,
+        b"",
+        path,
+        id,
+        mode,
+    )
+}
+
+// Removes the entry at a path below a prefix.
+pub fn remove_at(
+    ed: Editor,
+    plens: &mut [u64],
+    paths: &mut [u8],
+    tlens: &mut [u64],
+    trees: &mut [u8],
+    order: &[u64],
+    ids: &[u8],
+    ends: &[u32],
+    raws: &[u8],
+    prefix: &[u8],
+    path: &[u8],
+) -> Numbered
+    ensures { λ r. ⌜ Does (model.edited sha1 (tableOf (now (ids .entry)) (now (ends .entry)) (now (raws .entry))) (walk.remove walk.ANY) false (now (prefix .entry)) (now (path .entry)))
+        (lent ed (now (plens .entry)) (now (paths .entry)) (now (tlens .entry)) (now (trees .entry)) (now (order .entry))) (r .code)
+        (lent (r .ed) (now (plens .exit)) (now (paths .exit)) (now (tlens .exit)) (now (trees .exit)) (now (order .exit))) ⌝ }
+{
+    let edit = Edit::Remove(RemoveKind::Any);
+    edited(
+        ed,
+        plens,
+        paths,
+        tlens,
+        trees,
+        order,
+        ids,
+        ends,
+        raws,
+        prefix,
+        path,
+        edit,
+    )
+}
+
+// Removes the entry at a path.
+pub fn remove(
+    ed: Editor,
+    plens: &mut [u64],
+    paths: &mut [u8],
+    tlens: &mut [u64],
+    trees: &mut [u8],
+    order: &[u64],
+    ids: &[u8],
+    ends: &[u32],
+    raws: &[u8],
+    path: &[u8],
+) -> Numbered
+    ensures { λ r. ⌜ Does (model.edited sha1 (tableOf (now (ids .entry)) (now (ends .entry)) (now (raws .entry))) (walk.remove walk.ANY) false [] (now (path .entry)))
+        (lent ed (now (plens .entry)) (now (paths .entry)) (now (tlens .entry)) (now (trees .entry)) (now (order .entry))) (r .code)
+        (lent (r .ed) (now (plens .exit)) (now (paths .exit)) (now (tlens .exit)) (now (trees .exit)) (now (order .exit))) ⌝ }
+{
+    remove_at(
+        ed,
+        plens,
+        paths,
+        tlens,
+        trees,
+        order,
+        ids,
+        ends,
+        raws,
+        b"",
+        path,
+    )
+}
+
+// Removes the entry at a path below a prefix, which must not be a tree.
+pub fn remove_leaf_at(
+    ed: Editor,
+    plens: &mut [u64],
+    paths: &mut [u8],
+    tlens: &mut [u64],
+    trees: &mut [u8],
+    order: &[u64],
+    ids: &[u8],
+    ends: &[u32],
+    raws: &[u8],
+    prefix: &[u8],
+    path: &[u8],
+) -> Numbered
+    ensures { λ r. ⌜ Does (model.edited sha1 (tableOf (now (ids .entry)) (now (ends .entry)) (now (raws .entry))) (walk.remove walk.LEAF) false (now (prefix .entry)) (now (path .entry)))
+        (lent ed (now (plens .entry)) (now (paths .entry)) (now (tlens .entry)) (now (trees .entry)) (now (order .entry))) (r .code)
+        (lent (r .ed) (now (plens .exit)) (now (paths .exit)) (now (tlens .exit)) (now (trees .exit)) (now (order .exit))) ⌝ }
+{
+    let edit = Edit::Remove(RemoveKind::Leaf);
+    edited(
+        ed,
+        plens,
+        paths,
+        tlens,
+        trees,
+        order,
+        ids,
+        ends,
+        raws,
+        prefix,
+        path,
+        edit,
+    )
+}
+
+// Removes the entry at a path, which must not be a tree.
+pub fn remove_leaf(
+    ed: Editor,
+    plens: &mut [u64],
+    paths: &mut [u8],
+    tlens: &mut [u64],
+    trees: &mut [u8],
+    order: &[u64],
+    ids: &[u8],
+    ends: &[u32],
+    raws: &[u8],
+    path: &[u8],
+) -> Numbered
+    ensures { λ r. ⌜ Does (model.edited sha1 (tableOf (now (ids .entry)) (now (ends .entry)) (now (raws .entry))) (walk.remove walk.LEAF) false [] (now (path .entry)))
+        (lent ed (now (plens .entry)) (now (paths .entry)) (now (tlens .entry)) (now (trees .entry)) (now (order .entry))) (r .code)
+        (lent (r .ed) (now (plens .exit)) (now (paths .exit)) (now (tlens .exit)) (now (trees .exit)) (now (order .exit))) ⌝ }
+{
+    remove_leaf_at(
+        ed,
+        plens,
+        paths,
+        tlens,
+        trees,
+        order,
+        ids,
+        ends,
+        raws,
+        b"",
+        path,
+    )
+}
+
+// Opens a cursor at a path, where a tree is then cached.
+pub fn cursor_at(
+    ed: Editor,
+    plens: &mut [u64],
+    paths: &mut [u8],
+    tlens: &mut [u64],
+    trees: &mut [u8],
+    order: &[u64],
+    ids: &[u8],
+    ends: &[u32],
+    raws: &[u8],
+    path: &[u8],
+) -> Numbered
+    ensures { λ r. ⌜ Does (model.opened sha1 (tableOf (now (ids .entry)) (now (ends .entry)) (now (raws .entry))) (now (path .entry)))
+        (lent ed (now (plens .entry)) (now (paths .entry)) (now (tlens .entry)) (now (trees .entry)) (now (order .entry))) (r .code)
+        (lent (r .ed) (now (plens .exit)) (now (paths .exit)) (now (tlens .exit)) (now (trees .exit)) (now (order .exit))) ⌝ }
+{
+    let o = editor::below::cursor_at(ed, plens, paths, tlens, trees, order, ids, ends, raws, path);
+    let code = o.code;
+    let opened = o.ed;
+    Numbered {
+        code: editor_terms::code::number(code),
+        ed: opened,
+    }
+}

@@ -1,0 +1,42 @@
+-- `editor_walk::measure::cached` meets its contract: a tree over a limit by itself passes it, and the counts decide otherwise. Assumes nothing.
+use Rattle.editor_walk.proofs.MeasureLaws.{cached-entries, cached-names, cached-on}
+use borrow.Author.Needs.{needs}
+use Rattle.editor_walk.proofs.measure.cached.Statement.{statement}
+use Rattle.editor_walk.proofs.measure.cached.Tie as tie
+
+ended-requires : tie.Need-ended-requires
+ended-requires c κs = search needs
+
+returns : tie.Need-returns
+returns c =
+    cached-entries (c .before .if1 .taken) (c .ended .ensures)
+
+ended-requires-2 : tie.Need-ended-requires-2
+ended-requires-2 c κs = search needs
+
+returns-2 : tie.Need-returns-2
+returns-2 c =
+    cached-names (c .before .if2 .taken) (c .ended2 .ensures)
+
+with-tree-requires : tie.Need-with-tree-requires
+with-tree-requires c κs = search needs
+
+within-requires : tie.Need-within-requires
+within-requires c κs = search needs
+
+returns-3 : tie.Need-returns-3
+returns-3 c =
+    let v = c .before in
+    cached-on (v .with-tree .result) (c .within .result) (c .within .ensures) (v .with-tree .ensures)
+
+pub cached-spec : {M : Type 1} → statement M
+cached-spec =
+    tie.close
+    (tie.spec
+    ended-requires
+    returns
+    ended-requires-2
+    returns-2
+    with-tree-requires
+    within-requires
+    returns-3)

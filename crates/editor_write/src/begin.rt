@@ -1,0 +1,157 @@
+// Beginning a write, from the root or at a cursor's prefix.
+ghost use mathlib.Core.Path.{_≡_};
+ghost use Rattle.model.specs.Editor.{fromRoot, fromCursor};
+ghost use Rattle.model.specs.Formats.{sha1};
+ghost use Rattle.model.specs.Write.{begun};
+ghost use Rattle.store_slots.specs.View.{startOf, pathOf};
+ghost use Rattle.store_taken.specs.Taken.{Cached};
+ghost use Rattle.editor_terms.specs.Answers.{codeNumber};
+ghost use Rattle.editor.specs.Lent.{lent, Does};
+ghost use Rattle.editor.specs.Looks.{prefixOf};
+ghost use Rattle.editor_write.specs.Steps.{HoldsExactly, Made, Answers, Starts};
+use editor::cursor::Cursor;
+use editor::root::Answer;
+use editor_terms::code::Code;
+use store_runs::runs::Found;
+use store_slots::Editor;
+
+// Begins a write at the cached tree in a slot, over slices that hold an editor with none open. `from` is 1 where it is the root's and 2 where it is a cursor's.
+fn begin_slot(
+    ed: Editor,
+    plens: &mut [u64],
+    paths: &mut [u8],
+    tlens: &mut [u64],
+    trees: &mut [u8],
+    order: &mut [u64],
+    slot: usize,
+    from: u64,
+) -> Editor
+    requires { ⌜ HoldsExactly (lent ed (now plens) (now paths) (now tlens) (now trees) (now order)) × (ed .«open» ≡ 0) × Cached ed slot × Starts from (pathOf (now plens) (now paths) slot) ⌝ }
+    ensures { λ q. ⌜ Made (begun sha1 (startOf from (pathOf (now (plens .entry)) (now (paths .entry)) slot))) (lent ed (now (plens .entry)) (now (paths .entry)) (now (tlens .entry)) (now (trees .entry)) (now (order .entry)))
+        (lent q (now (plens .exit)) (now (paths .exit)) (now (tlens .exit)) (now (trees .exit)) (now (order .exit))) ⌝ }
+{
+    let empty = Editor { open: from, ..ed };
+    let one = store_taken::stack(empty, order, slot);
+    let next = editor_write_steps::turn::onward(one, plens, paths, tlens, trees, order, 20);
+    let two = next.editor;
+    store_taken::ask(two, next.slot)
+}
+
+// Begins a write at the tree at a prefix, over slices that hold an editor with none open.
+fn begin_held(
+    ed: Editor,
+    plens: &mut [u64],
+    paths: &mut [u8],
+    tlens: &mut [u64],
+    trees: &mut [u8],
+    order: &mut [u64],
+    prefix: &[u8],
+    from: u64,
+) -> Answer
+    requires { ⌜ HoldsExactly (lent ed (now plens) (now paths) (now tlens) (now trees) (now order)) × (ed .«open» ≡ 0) × Starts from (now prefix) ⌝ }
+    ensures { λ r. ⌜ Answers (begun sha1 (startOf from (now (prefix .entry)))) (lent ed (now (plens .entry)) (now (paths .entry)) (now (tlens .entry)) (now (trees .entry)) (now (order .entry))) (codeNumber (r .code))
+        (lent (r .ed) (now (plens .exit)) (now (paths .exit)) (now (tlens .exit)) (now (trees .exit)) (now (order .exit))) ⌝ }
+{
+    match store_slots::find(ed, plens, paths, prefix) {
+        Found::Nothing => Answer {
+            code: Code::CursorStale,
+            ed,
+        },
+        Found::At(slot) => {
+            let q = begin_slot(ed, plens, paths, tlens, trees, order, slot, from);
+            Answer {
+                code: Code::Done,
+                ed: q,
+            }
+        }
+    }
+}
+
+// Begins a write at a prefix, from the root (1) or from a cursor (2).
+fn begin_from(
+    ed: Editor,
+    plens: &mut [u64],
+    paths: &mut [u8],
+    tlens: &mut [u64],
+    trees: &mut [u8],
+    order: &mut [u64],
+    prefix: &[u8],
+    from: u64,
+) -> Answer
+    requires { ⌜ Starts from (now prefix) ⌝ }
+    ensures { λ r. ⌜ Does (begun sha1 (startOf from (now (prefix .entry)))) (lent ed (now (plens .entry)) (now (paths .entry)) (now (tlens .entry)) (now (trees .entry)) (now (order .entry))) (codeNumber (r .code))
+        (lent (r .ed) (now (plens .exit)) (now (paths .exit)) (now (tlens .exit)) (now (trees .exit)) (now (order .exit))) ⌝ }
+{
+    if !store_check::holds::holds(ed, plens, paths, tlens, trees, order) {
+        return Answer {
+            code: Code::StoreDamaged,
+            ed,
+        };
+    }
+    if ed.open != 0 {
+        return Answer {
+            code: Code::WriteOpen,
+            ed,
+        };
+    }
+    begin_held(
+        ed,
+        &mut plens[..64],
+        &mut paths[..8192],
+        &mut tlens[..64],
+        &mut trees[..38912],
+        &mut order[..64],
+        prefix,
+        from,
+    )
+}
+
+// Begins a write from the root.
+pub fn begin(
+    ed: Editor,
+    plens: &mut [u64],
+    paths: &mut [u8],
+    tlens: &mut [u64],
+    trees: &mut [u8],
+    order: &mut [u64],
+) -> Answer
+    ensures { λ r. ⌜ Does (begun sha1 fromRoot) (lent ed (now (plens .entry)) (now (paths .entry)) (now (tlens .entry)) (now (trees .entry)) (now (order .entry))) (codeNumber (r .code))
+        (lent (r .ed) (now (plens .exit)) (now (paths .exit)) (now (tlens .exit)) (now (trees .exit)) (now (order .exit))) ⌝ }
+{
+    begin_from(ed, plens, paths, tlens, trees, order, b"", 1)
+}
+
+// Begins a write at a cursor's prefix.
+pub fn begin_at(
+    ed: Editor,
+    plens: &mut [u64],
+    paths: &mut [u8],
+    tlens: &mut [u64],
+    trees: &mut [u8],
+    order: &mut [u64],
+    prefix: &[u8],
+) -> Answer
+    ensures { λ r. ⌜ Does (begun sha1 (fromCursor (now (prefix .entry)))) (lent ed (now (plens .entry)) (now (paths .entry)) (now (tlens .entry)) (now (trees .entry)) (now (order .entry))) (codeNumber (r .code))
+        (lent (r .ed) (now (plens .exit)) (now (paths .exit)) (now (tlens .exit)) (now (trees .exit)) (now (order .exit))) ⌝ }
+{
+    begin_from(ed, plens, paths, tlens, trees, order, prefix, 2)
+}
+
+// Begins a write at the tree of a cursor.
+pub fn begin_cursor(
+    ed: Editor,
+    plens: &mut [u64],
+    paths: &mut [u8],
+    tlens: &mut [u64],
+    trees: &mut [u8],
+    order: &mut [u64],
+    cursor: Cursor,
+) -> Answer
+    ensures { λ r. ⌜ Does (begun sha1 (fromCursor (prefixOf cursor))) (lent ed (now (plens .entry)) (now (paths .entry)) (now (tlens .entry)) (now (trees .entry)) (now (order .entry))) (codeNumber (r .code))
+        (lent (r .ed) (now (plens .exit)) (now (paths .exit)) (now (tlens .exit)) (now (trees .exit)) (now (order .exit))) ⌝ }
+{
+    let c = editor::cursor::sound(cursor);
+    let p = c.prefix;
+    let n = c.len;
+    begin_at(ed, plens, paths, tlens, trees, order, &p[..n])
+}

@@ -1,0 +1,66 @@
+// Whether a record and five lent slices hold an editor: number 13 is for those that do not.
+ghost use mathlib.Core.Path.{_≡_};
+ghost use Prim.Native.Nat.{_≤_};
+ghost use lib.ListN.{length};
+ghost use Rattle.model.specs.Editor.{Format};
+ghost use Rattle.model.specs.Formats.{sha1};
+ghost use Rattle.store_slots.specs.View.{treeRoom, Holds};
+ghost use Rattle.store_check.specs.Decides.{Decides};
+ghost use Rattle.store_check.specs.Stored.{Stored};
+use store_slots::Editor;
+
+// Whether slices as long as a store hold an editor with ids of this width.
+fn exact(
+    r: Editor,
+    plens: &[u64],
+    paths: &[u8],
+    tlens: &[u64],
+    trees: &[u8],
+    order: &[u64],
+    width: usize,
+) -> bool
+    requires { ⌜ (length (now plens) ≡ 64) × (length (now paths) ≡ 8192) × (length (now tlens) ≡ 64) × (length (now trees) ≡ treeRoom width) × (length (now order) ≡ 64) × (width ≤ 64) ⌝ }
+    ensures { λ b. ⌜ ((F : Format) → F .width ≡ width → Decides (Holds F r (now (plens .entry)) (now (paths .entry)) (now (tlens .entry)) (now (trees .entry)) (now (order .entry))) b) ⌝ }
+{
+    if !crate::laid::laid(r, plens, paths, tlens, trees, width) {
+        return false;
+    }
+    crate::written::write_ok(r, plens, paths, tlens, trees, order, width)
+}
+
+// Whether the record and the slices hold an editor with ids of 20 bytes.
+pub fn holds(
+    r: Editor,
+    plens: &[u64],
+    paths: &[u8],
+    tlens: &[u64],
+    trees: &[u8],
+    order: &[u64],
+) -> bool
+    ensures { λ b. ⌜ Decides (Stored sha1 r (now (plens .entry)) (now (paths .entry)) (now (tlens .entry)) (now (trees .entry)) (now (order .entry))) b ⌝ }
+{
+    if plens.len() < 64 {
+        return false;
+    }
+    if paths.len() < 8192 {
+        return false;
+    }
+    if tlens.len() < 64 {
+        return false;
+    }
+    if trees.len() < 38912 {
+        return false;
+    }
+    if order.len() < 64 {
+        return false;
+    }
+    exact(
+        r,
+        &plens[..64],
+        &paths[..8192],
+        &tlens[..64],
+        &trees[..38912],
+        &order[..64],
+        20,
+    )
+}

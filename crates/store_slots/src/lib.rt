@@ -1,0 +1,156 @@
+// The trees of an editor, in lent slices: for each of 64 slots a path and a tree.
+ghost use mathlib.Core.Path.{_≡_};
+ghost use mathlib.Core.Option.{none};
+ghost use mathlib.Core.Bool.{true};
+ghost use Prim.Native.Nat.{ℕ, _+_, _≤_};
+ghost use mathlib.Core.List.{List, []};
+ghost use lib.ListN.{length, set};
+ghost use Rattle.model.specs.Bytes.{Bytes};
+ghost use Rattle.model.specs.Map.{find as finds, put, del};
+ghost use Rattle.model.specs.Editor.{at, fits};
+ghost use Rattle.store_runs.specs.Digits.{digits};
+ghost use Rattle.store_runs.specs.Runs.{cut, Sound};
+ghost use Rattle.store_slots.specs.View.{viewOf, heldAs, Laid, treeRoom, fresh, SlotIs, pathOf, Used, Others, SameWrite};
+use store_runs::runs::Found;
+
+// What is in use of the slices, and the open write. In `free`, set bits are free slots; in `hidden`, free ones and those that the write has taken.
+// `open` is 0 where no write is open, 1 for one from the root and 2 for one from a cursor; `aside` and `stacked` count its trees, and `asked` is
+// the slot of the requested one.
+#[repr(C)]
+pub struct Editor {
+    pub free: u64,
+    pub hidden: u64,
+    pub paths: usize,
+    pub trees: usize,
+    pub entries: usize,
+    pub names: usize,
+    pub open: u64,
+    pub aside: usize,
+    pub stacked: usize,
+    pub asked: usize,
+}
+
+// A slot that was taken, and the record then.
+pub struct Taken {
+    pub slot: usize,
+    pub editor: Editor,
+}
+
+// The slot of the cached tree at a path.
+pub fn find(r: Editor, plens: &[u64], paths: &[u8], path: &[u8]) -> Found
+    requires { ⌜ Sound (now plens) (now paths) (r .paths) × (length (now plens) ≡ 64) ⌝ }
+    ensures { λ f. ⌜ ((w : ℕ) (runs : List Bytes) → length runs ≡ 64 → SlotIs w (digits 64 (r .hidden)) (cut (now (plens .entry)) (now (paths .entry))) runs (now (path .entry)) f) ⌝ }
+{
+    let map = r.hidden;
+    let np = r.paths;
+    store_runs::runs::find(map, plens, paths, np, path)
+}
+
+// Drops the tree in a slot.
+pub fn drop_slot(
+    r: Editor,
+    plens: &mut [u64],
+    paths: &mut [u8],
+    tlens: &mut [u64],
+    trees: &mut [u8],
+    width: usize,
+    k: usize,
+) -> Editor
+    requires { ⌜ Laid width r (now plens) (now paths) (now tlens) (now trees) × (width ≤ 64) × Used r k ⌝ }
+    ensures view { λ q. ⌜ viewOf width q (now (plens .exit)) (now (paths .exit)) (now (tlens .exit)) (now (trees .exit))
+        ≡ del at (pathOf (now (plens .entry)) (now (paths .entry)) k) (viewOf width r (now (plens .entry)) (now (paths .entry)) (now (tlens .entry)) (now (trees .entry))) ⌝ }
+    ensures laid { λ q. ⌜ Laid width q (now (plens .exit)) (now (paths .exit)) (now (tlens .exit)) (now (trees .exit)) ⌝ }
+    ensures others { λ q. ⌜ Others (now (plens .entry)) (now (paths .entry)) k (now (plens .exit)) (now (paths .exit))
+        × Others (now (tlens .entry)) (now (trees .entry)) k (now (tlens .exit)) (now (trees .exit)) × (digits 64 (q .free) ≡ set (digits 64 (r .free)) k 1) × (digits 64 (q .hidden) ≡ set (digits 64 (r .hidden)) k 1) ⌝ }
+    ensures same { λ q. ⌜ (r .hidden ≡ r .free → q .hidden ≡ q .free) × SameWrite r q ⌝ }
+{
+    let map = r.free;
+    let hid = r.hidden;
+    let np = r.paths;
+    let nt = r.trees;
+    let n = plens[k] as usize;
+    let m = tlens[k] as usize;
+    let es = names::compact::count(store_runs::runs::run(tlens, trees, nt, k), width);
+    let ns = m - es * (2 + width);
+    let left = r.entries - es;
+    let bytes = r.names - ns;
+    let p = store_runs::runs::remove(plens, paths, np, k, 0, n);
+    let t = store_runs::runs::remove(tlens, trees, nt, k, 0, m);
+    let f = store_runs::free::give(map, k);
+    let h = store_runs::free::mark(hid, k);
+    Editor {
+        free: f,
+        hidden: h,
+        paths: p,
+        trees: t,
+        entries: left,
+        names: bytes,
+        ..r
+    }
+}
+
+// Caches an empty tree under a path that has none, in the first free slot.
+pub fn add_empty(
+    r: Editor,
+    plens: &mut [u64],
+    paths: &mut [u8],
+    tlens: &[u64],
+    trees: &[u8],
+    width: usize,
+    path: &[u8],
+) -> Taken
+    requires { ⌜ Laid width r (now plens) (now paths) (now tlens) (now trees) × (r .hidden ≡ r .free)
+        × (finds at (now path) (viewOf width r (now plens) (now paths) (now tlens) (now trees)) ≡ none)
+        × (fits (put at (heldAs (now path) []) (viewOf width r (now plens) (now paths) (now tlens) (now trees))) ≡ true) ⌝ }
+    ensures view { λ q. ⌜ viewOf width (q .editor) (now (plens .exit)) (now (paths .exit)) (now (tlens .entry)) (now (trees .entry))
+        ≡ put at (heldAs (now (path .entry)) []) (viewOf width r (now (plens .entry)) (now (paths .entry)) (now (tlens .entry)) (now (trees .entry))) ⌝ }
+    ensures slot { λ q. ⌜ Used (q .editor) (q .slot) × (pathOf (now (plens .exit)) (now (paths .exit)) (q .slot) ≡ now (path .entry)) ⌝ }
+    ensures laid { λ q. ⌜ Laid width (q .editor) (now (plens .exit)) (now (paths .exit)) (now (tlens .entry)) (now (trees .entry)) ⌝ }
+    ensures others { λ q. ⌜ Others (now (plens .entry)) (now (paths .entry)) (q .slot) (now (plens .exit)) (now (paths .exit))
+        × (digits 64 (q .editor .free) ≡ set (digits 64 (r .free)) (q .slot) 0) ⌝ }
+    ensures same { λ q. ⌜ (q .editor .hidden ≡ q .editor .free) × SameWrite r (q .editor) ⌝ }
+{
+    let map = r.free;
+    let np = r.paths;
+    let k = store_runs::free::first(map);
+    let p = store_runs::runs::insert(plens, paths, np, k, 0, path);
+    let f = store_runs::free::take(map, k);
+    Taken {
+        slot: k,
+        editor: Editor {
+            free: f,
+            hidden: f,
+            paths: p,
+            ..r
+        },
+    }
+}
+
+// Drops every tree and the write. Looks at nothing that the slices held.
+pub fn drop_all(
+    plens: &mut [u64],
+    paths: &[u8],
+    tlens: &mut [u64],
+    trees: &[u8],
+    width: usize,
+) -> Editor
+    requires { ⌜ (length (now plens) ≡ 64) × (length (now tlens) ≡ 64) × (length (now paths) ≡ 8192) × (length (now trees) ≡ treeRoom width) ⌝ }
+    ensures view { λ r. ⌜ viewOf width r (now (plens .exit)) (now (paths .entry)) (now (tlens .exit)) (now (trees .entry)) ≡ [] ⌝ }
+    ensures laid { λ r. ⌜ Laid width r (now (plens .exit)) (now (paths .entry)) (now (tlens .exit)) (now (trees .entry)) ⌝ }
+    ensures record { λ r. ⌜ r ≡ fresh ⌝ }
+{
+    store_runs::runs::clear(plens);
+    store_runs::runs::clear(tlens);
+    Editor {
+        free: 0xffff_ffff_ffff_ffff,
+        hidden: 0xffff_ffff_ffff_ffff,
+        paths: 0,
+        trees: 0,
+        entries: 0,
+        names: 0,
+        open: 0,
+        aside: 0,
+        stacked: 0,
+        asked: 0,
+    }
+}
