@@ -4,9 +4,9 @@ ghost use Rattle.model.specs.Bytes.{Bytes};
 ghost use Rattle.editor_walk.specs.Lookups.{lookedAs};
 ghost use Rattle.editor.specs.Lent.{lent, Good};
 ghost use Rattle.adapter.specs.Reads.{Tells, Gives, Gets};
+use editor_walk::look::Looked;
 use names::mode::Mode;
 use store_slots::Editor;
-use editor_walk::look::Looked;
 
 // The number that a lookup gives; the id of the entry goes to the front of the slice.
 fn given(found: Looked, id: &mut [u8]) -> u32

@@ -7,8 +7,8 @@ ghost use Rattle.model.specs.Paths.{base};
 ghost use Rattle.editor_walk.specs.Lookups.{lookedAs};
 ghost use Rattle.editor.specs.Lent.{lent};
 ghost use Rattle.editor.specs.Looks.{Looks, standing, prefixOf, cursorAt};
-use store_slots::Editor;
 use editor_walk::look::Looked;
+use store_slots::Editor;
 
 pub struct Cursor {
     pub prefix: [u8; 1024],

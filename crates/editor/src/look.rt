@@ -10,8 +10,8 @@ ghost use Rattle.editor.specs.Lent.{lent};
 ghost use Rattle.editor.specs.Looks.{Looks};
 use crate::ready::Ready;
 use editor_terms::code::Code;
-use store_slots::Editor;
 use editor_walk::look::Looked;
+use store_slots::Editor;
 
 // The entry at a path below a prefix, over slices as long as a store, which hold an editor.
 fn look_held(

@@ -20,8 +20,8 @@ use editor_terms::code::Code;
 use editor_terms::edit::Edit;
 use editor_terms::edit::Seen;
 use editor_terms::edit::Turn;
-use store_slots::Editor;
 use editor_walk::land::Landing;
+use store_slots::Editor;
 
 // What a step comes to: its number, the record, and whether and in which slot the walk goes on.
 pub struct Walked {
@@ -205,7 +205,12 @@ fn step(
         };
     }
     let nt = ed.trees;
-    let seen = seen_for(store_runs::runs::run(tlens, trees, nt, slot), name, edit, last);
+    let seen = seen_for(
+        store_runs::runs::run(tlens, trees, nt, slot),
+        name,
+        edit,
+        last,
+    );
     let turn = editor_terms::edit::turn_of(edit, last, seen);
     let e = apply(ed, plens, paths, tlens, trees, name, slot, turn);
     if !editor_terms::edit::goes_down(turn, last, deep) {

@@ -46,7 +46,12 @@ pub fn remove_key(
     }
     let a = place.at;
     let i = place.index;
-    let n = names::compact::name_at(store_runs::runs::run(tlens, trees, nt, slot), width, a, i).len();
+    let n = names::compact::name_at(
+        store_runs::runs::run(tlens, trees, nt, slot),
+        width,
+        a,
+        i,
+    ).len();
     let t = store_runs::runs::remove(tlens, trees, nt, slot, a, 2 + width + n);
     let left = r.entries - 1;
     let bytes = r.names - n;
