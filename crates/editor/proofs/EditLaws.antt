@@ -44,9 +44,9 @@ use Rattle.editor_terms.specs.declared.edit.Edit.{Edit as Asked}
 use Rattle.editor_terms.specs.declared.edit.Edit.the-variants.{Remove, Upsert}
 use Rattle.editor_terms.specs.Ids.{idBytes}
 use Rattle.editor_terms.proofs.IdLaws.{length-id, null-id}
-use Rattle.editor_change.specs.Steps.{Standing, editorAt, SettledAs}
-use Rattle.editor_change.specs.declared.pass.Answer.{Answer}
-use Rattle.editor_change.proofs.SettleLaws.{short-path}
+use Rattle.editor_walk.specs.Steps.{Standing, editorAt, SettledAs}
+use Rattle.editor_walk.specs.declared.apply.Answer.{Answer}
+use Rattle.editor_walk.proofs.SettleLaws.{short-path}
 use Rattle.editor.specs.Edited.{EditedAs}
 use Rattle.editor.specs.Lent.{Lent, lent, Good, viewed, Behind, Does}
 use Rattle.editor.specs.Looks.{ReadyIs}

@@ -6,8 +6,8 @@ use Rattle.model.specs.Calls.{Answer as Answered}
 use Rattle.store_slots.specs.View.{editorOf}
 use Rattle.store_slots.specs.declared.Editor.{Editor}
 use Rattle.editor_terms.specs.Answers.{codeNumber}
-use Rattle.editor_change.specs.Steps.{Standing}
-use Rattle.editor_change.specs.declared.pass.Answer.{Answer}
+use Rattle.editor_walk.specs.Steps.{Standing}
+use Rattle.editor_walk.specs.declared.apply.Answer.{Answer}
 
 -- the call was answered as the model says: the numbers from 5 on left every byte as it was; after the others the store is laid out, with no write open
 pub record EditedAs (r₀ : Editor) (plens₀ paths₀ tlens₀ trees₀ order : List ℕ) (m : Answered) (a : Answer) (plens paths tlens trees : List ℕ) : Type 0 where

@@ -15,11 +15,11 @@ ghost use Rattle.editor_terms.specs.Objects.{tableOf};
 ghost use Rattle.editor.specs.Lent.{lent, Does};
 ghost use Rattle.editor.specs.Looks.{prefixOf, cursorAt};
 use crate::cursor::Cursor;
-use editor_change::pass::Answer;
 use editor_terms::code::Code;
 use editor_terms::edit::Edit;
 use editor_terms::edit::RemoveKind;
 use editor_terms::id::Id;
+use editor_walk::apply::Answer;
 use names::mode::EntryKind;
 use store_slots::Editor;
 

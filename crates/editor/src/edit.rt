@@ -10,18 +10,18 @@ ghost use Rattle.model.specs.Walk as walk;
 ghost use Rattle.names.specs.Answers.{asMode};
 ghost use Rattle.editor_terms.specs.Ids.{idBytes};
 ghost use Rattle.store_slots.specs.View.{Laid, viewOf, editorOf};
-ghost use Rattle.editor_change.specs.Steps.{editorAt};
+ghost use Rattle.editor_walk.specs.Steps.{editorAt};
 ghost use Rattle.editor_terms.specs.Answers.{codeNumber};
 ghost use Rattle.editor_terms.specs.Edits.{asEdit};
 ghost use Rattle.editor_terms.specs.Objects.{tableOf};
 ghost use Rattle.editor.specs.Lent.{lent, Does};
 ghost use Rattle.editor.specs.Edited.{EditedAs};
 use crate::ready::Ready;
-use editor_change::pass::Answer;
 use editor_terms::code::Code;
 use editor_terms::edit::Edit;
 use editor_terms::edit::RemoveKind;
 use editor_terms::id::Id;
+use editor_walk::apply::Answer;
 use names::mode::EntryKind;
 use store_slots::Editor;
 
@@ -69,8 +69,8 @@ fn edit_held(
         },
         Ready::In(slot) => {
             let mut buf = [0u8; 1280];
-            let n = editor_terms::path::put_full(&mut buf, prefix, path);
-            editor_change::pass::settle(
+            let n = names::full::put_full(&mut buf, prefix, path);
+            editor_walk::apply::settle(
                 ed,
                 plens,
                 paths,

@@ -35,7 +35,7 @@ fn look_held(
         Ready::Refused => Looked::Refused(Code::PathRefused),
         Ready::In(slot) => {
             let mut buf = [0u8; 1280];
-            let n = editor_terms::path::put_full(&mut buf, prefix, path);
+            let n = names::full::put_full(&mut buf, prefix, path);
             editor_walk::look::look(ed, plens, paths, tlens, trees, &buf[..n], path, slot)
         }
     }

@@ -2,6 +2,4 @@
 pub mod code;
 pub mod edit;
 pub mod id;
-pub mod look;
-pub mod path;
 pub mod table;

@@ -22,7 +22,7 @@ use Rattle.model.proofs.RawLaws.{well-entries}
 use Rattle.model.proofs.SoundTrees.{name-of, sound-well}
 use Rattle.model.proofs.WriteKeepsTrees.{good-find, name-some}
 use Rattle.names.specs.Places.{firstPiece}
-use Rattle.editor_terms.proofs.FrontLaws.{pieces-some, piece-short, piece-slash, pieces-next, pieces-end}
+use Rattle.names.proofs.FrontLaws.{pieces-some, piece-short, piece-slash, pieces-next, pieces-end}
 
 -- a path of some bytes has components
 pub components-some : (path : Bytes) → (length path ≡ 0 → ⊥) → components path ≡ pieces path

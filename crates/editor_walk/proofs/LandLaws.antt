@@ -18,7 +18,7 @@ use Rattle.model.specs.Walk as walk
 use Rattle.model.specs.Measure.{Counts, plusTree, landing, landNew, landRaw, landRead, lands, halts, there}
 use Rattle.model.specs.Measure as measure
 use Rattle.model.proofs.Basics.{none-some}
-use Rattle.names.proofs.PackLaws.{size-inv}
+use Rattle.names_compact.proofs.PackLaws.{size-inv}
 use Rattle.names.specs.Answers.{checkedAs}
 use Rattle.names.specs.Check.{sizeOf}
 use Rattle.names.specs.declared.tree.Checked.{Checked}

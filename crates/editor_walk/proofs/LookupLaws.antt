@@ -19,7 +19,7 @@ use Rattle.model.proofs.ChangeLaws.{Plain}
 use Rattle.model.proofs.Basics.{and-false}
 use Rattle.names.specs.Answers.{asMode, entry}
 use Rattle.names.specs.Places.{firstPiece}
-use Rattle.names.specs.Compact.{unpack}
+use Rattle.names_compact.specs.Compact.{unpack}
 use Rattle.names.specs.declared.mode.EntryKind.{EntryKind}
 use Rattle.store_runs.specs.Digits.{digits}
 use Rattle.store_runs.specs.Runs.{cut, runOf}
@@ -35,7 +35,7 @@ use Rattle.editor_terms.specs.Edits.{partsOf, seenAs}
 use Rattle.editor_terms.specs.declared.edit.Seen.the-variants as S
 use Rattle.editor_terms.specs.declared.id.Id.{Id}
 use Rattle.editor_terms.proofs.EditLaws.{seen-none, seen-some}
-use Rattle.editor_terms.proofs.FrontLaws.{Front, front-begin, front-here, front-next, piece-short, piece-slash}
+use Rattle.names.proofs.FrontLaws.{Front, front-begin, front-here, front-next, piece-short, piece-slash}
 use Rattle.editor_walk.specs.Lookups.{lookedAs, stepLook, NextIs}
 use Rattle.editor_walk.specs.declared.look.Looked.{Looked}
 use Rattle.editor_walk.specs.declared.look.Looked.the-variants.{Found, Missing}

@@ -21,7 +21,7 @@ use Rattle.model.specs.Measure.{Counts, countsOf, within, plusTree, seen, landi
 use Rattle.model.specs.Measure as model
 use Rattle.model.proofs.Basics.{no-way}
 use Rattle.names.specs.Places.{firstPiece}
-use Rattle.names.specs.Compact.{unpack}
+use Rattle.names_compact.specs.Compact.{unpack}
 use Rattle.store_runs.proofs.FindLaws.{cut-at}
 use Rattle.store_runs.specs.Runs.{cut, runOf}
 use Rattle.store_runs.proofs.Laws.{length-cut}
@@ -37,7 +37,7 @@ use Rattle.editor_terms.specs.declared.edit.Edit.{Edit}
 use Rattle.editor_terms.specs.declared.edit.Seen.{Seen}
 use Rattle.editor_terms.specs.declared.edit.Turn.{Turn}
 use Rattle.editor_terms.specs.declared.edit.Turn.the-variants.{Stop, Cut, Put, Down}
-use Rattle.editor_terms.proofs.FrontLaws.{Front, front-begin, front-here, front-next, piece-short, piece-slash}
+use Rattle.names.proofs.FrontLaws.{Front, front-begin, front-here, front-next, piece-short, piece-slash}
 use Rattle.editor_walk.specs.Counted.{countsAs, recordCounts}
 use Rattle.editor_walk.specs.Landings.{caches, stops, planned, LandsAs}
 use Rattle.editor_walk.specs.Levels.{Stored, Stands, GaugeIs, EndsAs, CachesAs, LandIs, LandedAs, downAs, stepAs}

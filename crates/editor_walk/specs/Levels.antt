@@ -15,7 +15,7 @@ use Rattle.model.specs.Formats.{sha1}
 use Rattle.model.specs.Walk.{Edit}
 use Rattle.model.specs.Measure.{Counts, within, plusTree, seen, there, lands, halts, landing, Measured, over, counted, pickMeasured, onLanding, onSight}
 use Rattle.model.specs.Measure as measure
-use Rattle.names.specs.Compact.{Run}
+use Rattle.names_compact.specs.Compact.{Run}
 use Rattle.store_runs.specs.Runs.{runOf, Sound}
 use Rattle.store_slots.specs.View.{treeOf}
 use Rattle.editor_terms.specs.Answers.{codeNumber}

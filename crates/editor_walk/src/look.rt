@@ -6,7 +6,7 @@ ghost use Rattle.model.specs.Bytes.{has};
 ghost use Rattle.model.specs.Tree.{wellFormed};
 ghost use Rattle.model.specs.Paths.{components, base, full as fullPath};
 ghost use Rattle.model.specs.Lookup.{look as lookedUp};
-ghost use Rattle.names.specs.Compact.{unpack, Run};
+ghost use Rattle.names_compact.specs.Compact.{unpack, Run};
 ghost use Rattle.store_runs.specs.Digits.{digits};
 ghost use Rattle.store_runs.specs.Runs.{cut, Sound};
 ghost use Rattle.store_slots.specs.View.{viewOf, Laid, Used, pathOf};
@@ -44,7 +44,7 @@ fn look_in(
     requires { ⌜ Sound (now plens) (now paths) (ed .paths) × (length (now plens) ≡ 64) × Run 20 (now tree) × (wellFormed 20 (unpack 20 (now tree)) ≡ true) × (has 47 (now name) ≡ false) ⌝ }
     ensures { λ r. ⌜ NextIs (digits 64 (ed .hidden)) (cut (now (plens .entry)) (now (paths .entry))) (unpack 20 (now (tree .entry))) (now (below .entry)) (now (name .entry)) «last» r ⌝ }
 {
-    match editor_terms::look::seen_in(tree, name, true) {
+    match crate::seen::seen_in(tree, name, true) {
         Seen::Nothing => Next::Over(Looked::Missing),
         Seen::Entry(kind, id) => {
             if last {

@@ -46,14 +46,10 @@ fn seen_at(used: usize, tlens: &[u64], trees: &[u8], raws: &[u8], level: Level, 
 {
     match level {
         Level::Slot(slot) => {
-            editor_terms::look::seen_in(
-                store_runs::runs::run(tlens, trees, used, slot),
-                name,
-                false,
-            )
+            crate::seen::seen_in(store_runs::runs::run(tlens, trees, used, slot), name, false)
         }
         Level::Raw(from, to) => {
-            editor_terms::look::seen_in_raw(names::part::between(raws, from, to - from), name)
+            crate::seen::seen_in_raw(names::part::between(raws, from, to - from), name)
         }
         Level::Empty => Seen::Nothing,
     }

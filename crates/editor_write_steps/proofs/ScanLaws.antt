@@ -16,8 +16,8 @@ use Rattle.model.specs.Paths.{join}
 use Rattle.model.specs.Editor.{Held, at}
 use Rattle.model.specs.Write.{Going, scanned, oneKid}
 use Rattle.model.proofs.Basics.{and-left, and-right}
-use Rattle.names.specs.Compact.{Run, kindOf, unpack, blank, entryAt, offset}
-use Rattle.names.proofs.CompactLaws.{Walked, walk-begin, walk-end, walk-in, walk-more, name-short, zero-tree}
+use Rattle.names_compact.specs.Compact.{Run, kindOf, unpack, blank, entryAt, offset}
+use Rattle.names_compact.proofs.CompactLaws.{Walked, walk-begin, walk-end, walk-in, walk-more, name-short, zero-tree}
 use Rattle.store_runs.specs.Digits.{digits}
 use Rattle.store_runs.specs.Runs.{cut}
 use Rattle.store_runs.proofs.DigitLaws.{length-digits}
@@ -28,7 +28,7 @@ use Rattle.store_slots.specs.View.{heldIn, Laid, SlotIs, heldAt, cachedOf}
 use Rattle.store_slots.specs.declared.Editor.{Editor}
 use Rattle.store_taken.specs.Taken.{goingOf, Between, Cached, SameSlots}
 use Rattle.store_taken.proofs.Steps.{laid-same}
-use Rattle.editor_terms.specs.Fronts.{lead}
+use Rattle.names.specs.Fronts.{lead}
 use Rattle.editor_write_steps.specs.Writes.{kidOn, scannedOn, Stacks}
 
 -- ---- the slot of a path

@@ -9,11 +9,11 @@ ghost use Rattle.model.specs.Bytes.{Bytes};
 ghost use Rattle.model.specs.Map.{find};
 ghost use Rattle.model.specs.Paths.{join};
 ghost use Rattle.model.specs.Editor.{at};
-ghost use Rattle.names.specs.Compact.{Run, unpack, offset, entryAt};
+ghost use Rattle.names_compact.specs.Compact.{Run, unpack, offset, entryAt};
 ghost use Rattle.store_runs.specs.Runs.{Sound};
 ghost use Rattle.store_slots.specs.View.{Laid, heldAt, pathOf, cachedOf};
 ghost use Rattle.store_taken.specs.Taken.{goingOf, Between};
-ghost use Rattle.editor_terms.specs.Fronts.{lead};
+ghost use Rattle.names.specs.Fronts.{lead};
 ghost use Rattle.editor_write_steps.specs.Writes.{kidOn, scannedOn, Stacks};
 use store_runs::runs::Found;
 use store_slots::Editor;
@@ -49,7 +49,7 @@ fn put_name(buf: &mut [u8; 1280], n: usize, tree: &[u8], width: usize, at: usize
     ensures { λ e. ⌜ (e ≤ 1280) × (length (now (buf .exit)) ≡ 1280) × ((p : Bytes) → take n (now (buf .entry)) ≡ lead p →
         (take e (now (buf .exit)) ≡ join p (entryAt width (now (tree .entry)) i .name)) × (take n (now (buf .exit)) ≡ lead p)) ⌝ }
 {
-    let name = names::compact::name_at(tree, width, at, i);
+    let name = names_compact::compact::name_at(tree, width, at, i);
     names::write::put(buf, n, name)
 }
 
@@ -72,15 +72,15 @@ fn scan_entries(
     ensures same { λ q. ⌜ Stacks r q ⌝ }
 {
     let mut buf = [0u8; 1280];
-    let n = editor_terms::path::put_prefix(&mut buf, prefix);
+    let n = names::full::put_prefix(&mut buf, prefix);
     let mut ed = r;
     let mut at = 0;
     let mut i = 0;
     while at < tree.len() {
         let e = put_name(&mut buf, n, tree, width, at, i);
-        let is_tree = names::compact::kind_at(tree, width, at, i) == 0;
+        let is_tree = names_compact::compact::kind_at(tree, width, at, i) == 0;
         ed = take_kid(ed, plens, paths, order, &buf[..e], is_tree);
-        at = names::compact::skip(tree, width, at, i, 1);
+        at = names_compact::compact::skip(tree, width, at, i, 1);
         i += 1;
     }
     ed

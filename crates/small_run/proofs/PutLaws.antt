@@ -12,7 +12,7 @@ use Rattle.model.specs.Bytes.{Bytes}
 use Rattle.model.proofs.Basics.{none-some, some-none, some-inj}
 use Rattle.names.specs.Splice.{splice}
 use Rattle.names.proofs.WriteLaws.{length-splice}
-use Rattle.editor_terms.proofs.FrontLaws.{splice-after}
+use Rattle.names.proofs.FrontLaws.{splice-after}
 use Rattle.small_records.specs.Answers.{outcome}
 use Rattle.small_records.specs.Texts.{Written, written}
 use Rattle.small_records.specs.declared.text.Put.{Put}

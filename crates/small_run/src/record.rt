@@ -18,11 +18,11 @@ ghost use Rattle.small_records.specs.Records.{Record, editOf, goodId, good as g
 ghost use Rattle.small_records.specs.declared.text.Put.the-variants.{At};
 ghost use Rattle.small_run.specs.Lesson.{madeBy, refusal, recordLines, afterRecords};
 ghost use Rattle.small_run.specs.Puts.{Puts, Leaves};
-use editor_change::pass::Answer;
 use editor_terms::code::Code;
 use editor_terms::edit::Edit;
 use editor_terms::edit::RemoveKind;
 use editor_terms::id::Id;
+use editor_walk::apply::Answer;
 use small_records::record::Next;
 use small_records::record::Op;
 use small_records::text::Put;

@@ -21,8 +21,8 @@ use Rattle.model.proofs.ByteLaws.{same-eq}
 use Rattle.model.proofs.DirBaseLaws.{base-join, dir-join}
 use Rattle.model.proofs.SoundTrees.{Sound, sound-well}
 use Rattle.model.proofs.WriteKeepsTrees.{all-found, tree-entry}
-use Rattle.names.specs.Compact.{unpack, Run, blank, entryAt}
-use Rattle.names.proofs.CompactLaws.{Mark, mark, offset-before, offset-zero, zero-tree}
+use Rattle.names_compact.specs.Compact.{unpack, Run, blank, entryAt}
+use Rattle.names_compact.proofs.CompactLaws.{Mark, mark, offset-before, offset-zero, zero-tree}
 use Rattle.store_runs.specs.Runs.{total, runOf}
 use Rattle.store_runs.proofs.FindLaws.{cut-at}
 use Rattle.store_runs.proofs.Laws.{total-more, total-within}

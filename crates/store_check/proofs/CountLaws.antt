@@ -13,11 +13,11 @@ use Rattle.model.specs.Bytes.{Bytes}
 use Rattle.model.proofs.Basics.{none-some}
 use Rattle.names.specs.Answers.{checkedAs}
 use Rattle.names.specs.Check.{sizeOf}
-use Rattle.names.specs.Compact.{unpack}
-use Rattle.names.specs.Judge.{compactTree}
+use Rattle.names_compact.specs.Compact.{unpack}
+use Rattle.names_compact.specs.Judge.{compactTree}
 use Rattle.names.specs.declared.tree.Checked.{Checked}
 use Rattle.names.specs.declared.tree.Checked.the-variants.{WellFormed, Broken}
-use Rattle.names.proofs.JudgeLaws.{compact-only, compact-back, compact-sized}
+use Rattle.names_compact.proofs.JudgeLaws.{compact-only, compact-back, compact-sized}
 use Rattle.store_runs.specs.Moves.{part}
 use Rattle.store_runs.specs.Runs.{total, cut, Sound}
 use Rattle.store_runs.proofs.Laws.{total-within, total-more, length-cut}

@@ -24,8 +24,8 @@ use Rattle.model.proofs.MapLaws.{find-put-same}
 use Rattle.model.proofs.SearchLaws.{Right, halving-right}
 use Rattle.model.proofs.SoundTrees.{Sound, sound-well, find-key}
 use Rattle.model.proofs.ValidSums.{one, isAt}
-use Rattle.names.specs.Compact.{unpack, spotOf, Tells}
-use Rattle.names.specs.declared.compact.Place.{Place}
+use Rattle.names_compact.specs.Compact.{unpack, spotOf, Tells}
+use Rattle.names_compact.specs.declared.compact.Place.{Place}
 use Rattle.store_runs.specs.Digits.{digits}
 use Rattle.store_runs.specs.Find.{findFrom}
 use Rattle.store_runs.specs.Runs.{cut}

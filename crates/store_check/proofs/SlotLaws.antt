@@ -14,7 +14,7 @@ use Rattle.model.specs.Valid.{allGood}
 use Rattle.model.proofs.Basics.{and-left, and-right, or-left, or-right, not-true}
 use Rattle.model.proofs.ByteLaws.{same-eq, same-not}
 use Rattle.model.proofs.SoundTrees.{total as sum}
-use Rattle.names.specs.Compact.{unpack, unpackIn}
+use Rattle.names_compact.specs.Compact.{unpack, unpackIn}
 use Rattle.store_runs.specs.Runs.{total}
 use Rattle.store_slots.specs.View.{ifUsed, heldIn, slotsOf}
 use Rattle.store_check.specs.Laid.{goodPath}

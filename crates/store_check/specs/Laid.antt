@@ -9,7 +9,7 @@ use Rattle.model.specs.Tree.{nameBytes, wellFormed}
 use Rattle.model.specs.Paths.{validPath}
 use Rattle.model.specs.Editor.{fits}
 use Rattle.model.specs.Valid.{allGood}
-use Rattle.names.specs.Compact.{packedAll, unpack}
+use Rattle.names_compact.specs.Compact.{packedAll, unpack}
 use Rattle.store_runs.specs.Digits.{digits}
 use Rattle.store_runs.specs.Runs.{total, Sound}
 use Rattle.store_slots.specs.View.{Laid, slots, viewOf}

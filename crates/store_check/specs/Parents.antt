@@ -8,7 +8,7 @@ use Rattle.model.specs.Bytes.{Bytes, has}
 use Rattle.model.specs.Tree.{Tree, entryOf, wellFormed}
 use Rattle.model.specs.Paths.{base, dir}
 use Rattle.model.specs.Valid.{isTreeEntry, hasParent}
-use Rattle.names.specs.Compact.{unpack, offset, Run}
+use Rattle.names_compact.specs.Compact.{unpack, offset, Run}
 use Rattle.store_runs.specs.Runs.{total}
 use Rattle.store_slots.specs.View.{pathOf}
 use Rattle.store_slots.specs.declared.Editor.{Editor}

@@ -204,7 +204,7 @@ fn trees_good(
     let mut k = 0;
     while k < 64 {
         let e = a + tlens[k] as usize;
-        match names::judge::judge(&trees[a..e], width) {
+        match names_compact::judge::judge(&trees[a..e], width) {
             Checked::WellFormed {
                 entries,
                 name_bytes,

@@ -7,7 +7,7 @@ ghost use lib.Dec.{eqb};
 ghost use lib.ListN.{length, take, drop, getD};
 ghost use Rattle.model.specs.Bytes.{same};
 ghost use Rattle.model.specs.Paths.{join};
-ghost use Rattle.names.specs.Compact.{unpack};
+ghost use Rattle.names_compact.specs.Compact.{unpack};
 ghost use Rattle.store_runs.specs.Runs.{total};
 ghost use Rattle.store_slots.specs.View.{pathOf};
 ghost use Rattle.store_check.specs.Parents.{Begins, Begun, Read, Starts, Named, Child, Table, Children};

@@ -10,7 +10,7 @@ ghost use Rattle.model.specs.Map.{find, isSome};
 ghost use Rattle.model.specs.Tree.{entryOf, wellFormed};
 ghost use Rattle.model.specs.Editor.{at};
 ghost use Rattle.model.specs.Valid.{isTreeEntry, hasParent, haveParents, asideGood, takenGood};
-ghost use Rattle.names.specs.Compact.{unpack, Run};
+ghost use Rattle.names_compact.specs.Compact.{unpack, Run};
 ghost use Rattle.store_runs.specs.Digits.{digits};
 ghost use Rattle.store_runs.specs.Runs.{cut, Sound};
 ghost use Rattle.store_slots.specs.View.{gather, slotsOf, heldAt, pathOf, asideOf, stackedOf, Closed, Opened};
@@ -131,7 +131,7 @@ fn has_tree(tree: &[u8], width: usize, name: &[u8]) -> bool
     requires { ⌜ Run width (now tree) × (width ≤ 64) × (wellFormed width (unpack width (now tree)) ≡ true) × (has 47 (now name) ≡ false) ⌝ }
     ensures { λ b. ⌜ b ≡ isTreeEntry (entryOf (now (name .entry)) (unpack width (now (tree .entry)))) ⌝ }
 {
-    names::compact::search(tree, width, name, true).found
+    names_compact::compact::search(tree, width, name, true).found
 }
 
 // Whether the tree in a slot lies one component below one of the first n that were set aside, which has a tree entry for it.

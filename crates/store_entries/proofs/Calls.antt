@@ -23,10 +23,10 @@ use Rattle.store_runs.specs.Moves.{inserted, removed}
 use Rattle.store_runs.specs.Runs.{cut, withRun, runOf, Sound}
 use Rattle.store_runs.proofs.Laws.{length-cut}
 use Rattle.store_runs.proofs.FindLaws.{cut-at}
-use Rattle.names.specs.Compact.{packed, packedAll, unpack, Run, entryAt, Tells}
+use Rattle.names_compact.specs.Compact.{packed, packedAll, unpack, Run, entryAt, Tells}
 use Rattle.names.specs.Splice.{splice}
-use Rattle.names.specs.declared.compact.Place.{Place}
-use Rattle.names.proofs.CompactLaws.{packed-length}
+use Rattle.names_compact.specs.declared.compact.Place.{Place}
+use Rattle.names_compact.proofs.CompactLaws.{packed-length}
 use Rattle.store_slots.specs.View.{viewOf, heldAs, Laid, Used, pathOf, treeOf}
 use Rattle.store_slots.specs.declared.Editor.{Editor}
 use Rattle.store_slots.proofs.Relaid.{others-with, run-in, with-here, well-unpacked, relaid-view, relaid, find-slot, entries-in, names-in}

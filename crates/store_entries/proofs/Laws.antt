@@ -22,13 +22,13 @@ use Rattle.model.proofs.RoomCounts.{name-of}
 use Rattle.model.specs.Editor.{at}
 use Rattle.model.proofs.WellFormedLaws.{sound-del, sound-distinct, well-with, good-del}
 use Rattle.store_runs.specs.Moves.{inserted, removed}
-use Rattle.names.specs.Compact.{packed, packedAll, unpack, Run, blank, entryAt, spotOf, Tells}
-use Rattle.names.specs.declared.compact.Place.{Place}
+use Rattle.names_compact.specs.Compact.{packed, packedAll, unpack, Run, blank, entryAt, spotOf, Tells}
+use Rattle.names_compact.specs.declared.compact.Place.{Place}
 use Rattle.names.specs.Splice.{splice}
 use Rattle.store_runs.proofs.MoveLaws.{splice-is}
 use Rattle.store_entries.specs.Entries.{Fresh}
-use Rattle.names.proofs.TwinLaws.{told-right}
-use Rattle.names.proofs.CompactLaws.{packed-cons, packed-append, packed-length, split-run, Mark, mark, here}
+use Rattle.names_compact.proofs.TwinLaws.{told-right}
+use Rattle.names_compact.proofs.CompactLaws.{packed-cons, packed-append, packed-length, split-run, Mark, mark, here}
 
 -- ---- maps in order, by places
 

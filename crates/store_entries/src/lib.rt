@@ -10,13 +10,13 @@ ghost use Rattle.model.specs.Tree.{isTree, asKind, key, goodName, without, with
 ghost use Rattle.model.specs.Search.{searched};
 ghost use Rattle.model.specs.Editor.{at, fits};
 ghost use Rattle.names.specs.Answers.{asMode, entry};
-ghost use Rattle.names.specs.Compact.{packed, unpack, Tells};
+ghost use Rattle.names_compact.specs.Compact.{packed, unpack, Tells};
 ghost use Rattle.names.specs.Splice.{splice};
 ghost use Rattle.store_runs.specs.Runs.{cut, withRun, runOf, Sound};
 ghost use Rattle.store_slots.specs.View.{viewOf, heldAs, Laid, pathOf, treeOf, Used};
 ghost use Rattle.store_entries.specs.Entries.{Fresh, Edited};
-use names::compact::Place;
 use names::mode::EntryKind;
+use names_compact::compact::Place;
 use store_slots::Editor;
 
 // Removes the entry of a name, of a tree or of another, if there is one.
@@ -35,7 +35,7 @@ pub fn remove_key(
     ensures { λ q. ⌜ Edited width r (now (plens .entry)) (now (paths .entry)) (now (tlens .entry)) (now (trees .entry)) slot (del key (asKind «as_tree» (now (name .entry))) (treeOf width (now (tlens .entry)) (now (trees .entry)) slot)) q (now (tlens .exit)) (now (trees .exit)) ⌝ }
 {
     let nt = r.trees;
-    let place = names::compact::search(
+    let place = names_compact::compact::search(
         store_runs::runs::run(tlens, trees, nt, slot),
         width,
         name,
@@ -46,7 +46,7 @@ pub fn remove_key(
     }
     let a = place.at;
     let i = place.index;
-    let n = names::compact::name_at(
+    let n = names_compact::compact::name_at(
         store_runs::runs::run(tlens, trees, nt, slot),
         width,
         a,
@@ -103,8 +103,8 @@ fn insert_at(
 {
     let nt = r.trees;
     let mut buf = [0u8; 321];
-    let byte = names::compact::kind_byte(kind);
-    let n = names::compact::put_entry(&mut buf, byte, id, name);
+    let byte = names_compact::compact::kind_byte(kind);
+    let n = names_compact::compact::put_entry(&mut buf, byte, id, name);
     let t = store_runs::runs::insert(tlens, trees, nt, slot, place.at, &buf[..n]);
     let more = r.entries + 1;
     let bytes = r.names + name.len();
@@ -136,7 +136,7 @@ pub fn insert_key(
 {
     let nt = r.trees;
     let in_tree_order = names::mode::is_tree(kind);
-    let place = names::compact::search(
+    let place = names_compact::compact::search(
         store_runs::runs::run(tlens, trees, nt, slot),
         width,
         name,
@@ -172,8 +172,8 @@ fn rewrite(
     ensures { λ _. ⌜ cut (now (tlens .entry)) (now (trees .exit)) ≡ withRun slot (λ (l : Bytes). splice l at (packed (entry kind (now (name .entry)) (now (id .entry))))) (cut (now (tlens .entry)) (now (trees .entry))) ⌝ }
 {
     let a = store_runs::runs::start(tlens, slot) + at;
-    let byte = names::compact::kind_byte(kind);
-    names::compact::put_at(trees, a, byte, id, name);
+    let byte = names_compact::compact::kind_byte(kind);
+    names_compact::compact::put_at(trees, a, byte, id, name);
 }
 
 // Puts an entry in, in place of the one of its name and of another kind of key, if there is one.
@@ -221,7 +221,7 @@ fn add(
 {
     let nt = r.trees;
     let as_tree = names::mode::is_tree(kind);
-    let twin = names::compact::search_twin(
+    let twin = names_compact::compact::search_twin(
         store_runs::runs::run(tlens, trees, nt, slot),
         width,
         name,
@@ -265,7 +265,7 @@ pub fn set(
 {
     let nt = r.trees;
     let as_tree = names::mode::is_tree(kind);
-    let place = names::compact::search(
+    let place = names_compact::compact::search(
         store_runs::runs::run(tlens, trees, nt, slot),
         width,
         name,

@@ -18,8 +18,8 @@ use Rattle.store_runs.specs.Moves.{inserted, removed}
 use Rattle.store_runs.specs.Runs.{cut, withRun, runOf, Sound}
 use Rattle.store_runs.proofs.Laws.{length-cut, total-within}
 use Rattle.store_runs.proofs.FindLaws.{cut-at}
-use Rattle.names.specs.Compact.{packedAll, unpack, Run}
-use Rattle.names.proofs.CompactLaws.{packed-room, wide-good}
+use Rattle.names_compact.specs.Compact.{packedAll, unpack, Run}
+use Rattle.names_compact.proofs.CompactLaws.{packed-room, wide-good}
 use Rattle.store_slots.specs.View.{heldAs, slots, gather, viewOf, Laid, Used, pathOf, treeOf}
 use Rattle.store_slots.specs.declared.Editor.{Editor}
 use Rattle.store_slots.proofs.Gather.{find-gather, firstHeld}

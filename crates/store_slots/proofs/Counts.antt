@@ -20,8 +20,9 @@ use Rattle.store_runs.proofs.DigitLaws.{length-digits}
 use Rattle.store_runs.specs.Runs.{cut}
 use Rattle.store_runs.specs.Runs.{total as lengths}
 use Rattle.store_runs.proofs.Laws.{length-cut}
-use Rattle.names.specs.Compact.{packedAll, unpack, Wide}
-use Rattle.names.proofs.CompactLaws.{packed-room, wide-good}
+use Rattle.names.specs.Check.{Wide}
+use Rattle.names_compact.specs.Compact.{packedAll, unpack}
+use Rattle.names_compact.proofs.CompactLaws.{packed-room, wide-good}
 use Rattle.store_slots.specs.View.{ifUsed, heldIn, slotsOf, slots, viewOf, Laid}
 use Rattle.store_slots.specs.declared.Editor.{Editor}
 use Rattle.store_slots.proofs.Gather.{gather-entries, gather-names, gather-paths, gather-length}

@@ -11,7 +11,7 @@ use Rattle.model.specs.Editor.{Held, at, entryCount, nameCount}
 use Rattle.store_runs.specs.Digits.{digits}
 use Rattle.store_runs.specs.Runs.{cut, Sound, total}
 use Rattle.store_runs.proofs.Laws.{cut-none, total-none}
-use Rattle.names.specs.Compact.{packedAll, unpackIn, unpack}
+use Rattle.names_compact.specs.Compact.{packedAll, unpackIn, unpack}
 use Rattle.store_slots.specs.View.{slotsOf, slots, gather, viewOf, treeRoom, Laid, Ordered, fresh}
 
 pub all-free : digits 64 0xffff_ffff_ffff_ffff ≡ replicate 64 1

@@ -21,8 +21,8 @@ use Rattle.store_runs.specs.Digits.{digits}
 use Rattle.store_runs.proofs.DigitLaws.{length-digits}
 use Rattle.store_runs.specs.Runs.{cut, withRun, Sound}
 use Rattle.store_runs.proofs.Laws.{length-cut, with-other}
-use Rattle.names.specs.Compact.{packedAll, unpack, Run}
-use Rattle.names.proofs.CompactLaws.{wide-good, unpacked}
+use Rattle.names_compact.specs.Compact.{packedAll, unpack, Run}
+use Rattle.names_compact.proofs.CompactLaws.{wide-good, unpacked}
 use Rattle.store_slots.specs.View.{slotsOf, slots, gather, viewOf, Laid, Others}
 use Rattle.store_slots.specs.declared.Editor.{Editor}
 use Rattle.store_slots.proofs.Gather.{gather-entries, gather-names, total-mid, total-more, distinct-insert, distinct-remove, distinct-before, gather-mid}

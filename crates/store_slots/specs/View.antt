@@ -17,7 +17,7 @@ use Rattle.model.specs.Write.{bottom}
 use Rattle.model.specs.Valid.{valid}
 use Rattle.store_runs.specs.Digits.{digits}
 use Rattle.store_runs.specs.Runs.{cut, Sound}
-use Rattle.names.specs.Compact.{packedAll, unpack}
+use Rattle.names_compact.specs.Compact.{packedAll, unpack}
 use Rattle.store_slots.specs.declared.Editor.{Editor}
 
 -- a slot with the digit d of the free map, before the slots after it

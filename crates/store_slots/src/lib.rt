@@ -70,7 +70,7 @@ pub fn drop_slot(
     let nt = r.trees;
     let n = plens[k] as usize;
     let m = tlens[k] as usize;
-    let es = names::compact::count(store_runs::runs::run(tlens, trees, nt, k), width);
+    let es = names_compact::compact::count(store_runs::runs::run(tlens, trees, nt, k), width);
     let ns = m - es * (2 + width);
     let left = r.entries - es;
     let bytes = r.names - ns;

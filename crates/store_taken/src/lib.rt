@@ -268,7 +268,7 @@ pub fn keep_only(
 {
     let np = r.paths;
     let nt = r.trees;
-    let es = names::compact::count(store_runs::runs::run(tlens, trees, nt, slot), width);
+    let es = names_compact::compact::count(store_runs::runs::run(tlens, trees, nt, slot), width);
     let p = keep_run(plens, paths, np, slot);
     let t = keep_run(tlens, trees, nt, slot);
     let ns = t - es * (2 + width);

@@ -19,9 +19,9 @@ use Rattle.model.proofs.SoundTrees.{total-put-new}
 use Rattle.model.proofs.RoomCounts.{trees-total, entries-total, names-total, paths-total}
 use Rattle.model.proofs.Growth.{fits-less}
 use Rattle.names.specs.Check.{TreeSize, sizeOf}
-use Rattle.names.specs.Compact.{packedAll, Takes}
+use Rattle.names_compact.specs.Compact.{packedAll, Takes}
 use Rattle.names.specs.declared.tree.Checked.the-variants.{WellFormed}
-use Rattle.names.proofs.PackLaws.{takes-checked}
+use Rattle.names_compact.proofs.PackLaws.{takes-checked}
 use Rattle.store_runs.specs.Digits.{digits}
 use Rattle.store_runs.specs.Runs.{cut, withRun, Sound}
 use Rattle.store_slots.specs.View.{viewOf, heldAs, Laid, Used, SameWrite, pathOf, treeOf}

@@ -12,9 +12,10 @@ use Rattle.model.specs.Bytes.{Bytes, same}
 use Rattle.model.specs.Tree.{Entry, Tree, null, pickTree, withoutId, nameBytes, wellFormed}
 use Rattle.model.proofs.RawLaws.{well-entries}
 use Rattle.model.proofs.WriteKeepsTrees.{well-dropped, names-dropped}
-use Rattle.names.specs.Compact.{packed, packedAll, unpack, Wide, Run}
+use Rattle.names.specs.Check.{Wide}
+use Rattle.names_compact.specs.Compact.{packed, packedAll, unpack, Run}
 use Rattle.names.specs.Splice.{splice}
-use Rattle.names.proofs.CompactLaws.{wide-good, packed-length, packed-append, packed-room, packed-one, packed-cons}
+use Rattle.names_compact.proofs.CompactLaws.{wide-good, packed-length, packed-append, packed-room, packed-one, packed-cons}
 use Rattle.names.proofs.WriteLaws.{splice-whole, length-splice}
 use Rattle.store_runs.specs.Moves.{part, removed}
 use Rattle.store_runs.proofs.MoveLaws.{splice-is}

@@ -5,7 +5,7 @@ use Prim.Native.Nat.{ℕ, _+_, _≤_, _<_}
 use lib.ListN.{length, getD}
 use Rattle.model.specs.Bytes.{Bytes}
 use Rattle.model.specs.Tree.{null, withoutId}
-use Rattle.names.specs.Compact.{packedAll, unpack, Run}
+use Rattle.names_compact.specs.Compact.{packedAll, unpack, Run}
 use Rattle.store_runs.specs.Runs.{cut, Sound}
 use Rattle.store_slots.specs.declared.Editor.{Editor}
 use Rattle.store_trees.specs.declared.nulls.Left.{Left}

@@ -6,7 +6,7 @@ ghost use Prim.Native.Nat.{ℕ, _+_, _≤_, _<_};
 ghost use lib.ListN.{length, take, getD};
 ghost use Rattle.model.specs.Raw.{readTree};
 ghost use Rattle.model.specs.Tree.{Tree};
-ghost use Rattle.names.specs.Compact.{packedAll, Takes};
+ghost use Rattle.names_compact.specs.Compact.{packedAll, Takes};
 ghost use Rattle.store_runs.specs.Moves.{part};
 ghost use Rattle.store_runs.specs.Runs.{total, cut, withRun, Sound};
 
@@ -39,5 +39,5 @@ pub fn fill(
 {
     let a = widen(lens, bytes, used, k, n);
     let e = a + n;
-    names::compact::pack(&mut bytes[a..e], raw, width);
+    names_compact::compact::pack(&mut bytes[a..e], raw, width);
 }

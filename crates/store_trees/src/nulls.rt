@@ -5,7 +5,7 @@ ghost use Prim.Native.Nat.{ℕ, _≤_, _<_};
 ghost use lib.ListN.{length, take, getD};
 ghost use Rattle.model.specs.Bytes.{same};
 ghost use Rattle.model.specs.Tree.{null, withoutId};
-ghost use Rattle.names.specs.Compact.{packedAll, unpack, Run};
+ghost use Rattle.names_compact.specs.Compact.{packedAll, unpack, Run};
 ghost use Rattle.store_runs.specs.Runs.{cut, withRun, Sound};
 ghost use Rattle.store_slots.specs.View.{Laid, treeOf, Used};
 ghost use Rattle.store_entries.specs.Entries.{Edited};

@@ -14,7 +14,7 @@ pub fn raw_len_of(r: Editor, tlens: &[u64], trees: &[u8], width: usize, slot: us
     ensures { λ n. ⌜ n ≡ length (rawTree (treeOf width (now (tlens .entry)) (now (trees .entry)) slot)) ⌝ }
 {
     let nt = r.trees;
-    names::compact::raw_len(store_runs::runs::run(tlens, trees, nt, slot), width)
+    names_compact::compact::raw_len(store_runs::runs::run(tlens, trees, nt, slot), width)
 }
 
 // Writes the raw form of a slot's tree to the front of out, and says how long it is.
@@ -31,5 +31,5 @@ pub fn put_raw(
     ensures { λ _. ⌜ now (out .exit) ≡ splice (now (out .entry)) 0 (rawTree (treeOf width (now (tlens .entry)) (now (trees .entry)) slot)) ⌝ }
 {
     let nt = r.trees;
-    names::compact::put_tree(out, store_runs::runs::run(tlens, trees, nt, slot), width)
+    names_compact::compact::put_tree(out, store_runs::runs::run(tlens, trees, nt, slot), width)
 }

@@ -8,7 +8,7 @@ use Rattle.model.specs.Map.{find, del, rising}
 use Rattle.model.specs.Search.{searched}
 use Rattle.model.specs.Tree.{key, asKind, isTree, withEntry}
 use Rattle.names.specs.Answers.{asMode, entry}
-use Rattle.names.specs.Compact.{Run, Tells, unpack}
+use Rattle.names_compact.specs.Compact.{Run, Tells, unpack}
 use Rattle.store_runs.specs.Runs.{runOf}
 use Rattle.store_slots.specs.View.{treeOf}
 use Rattle.store_slots.proofs.Calls.{searched-run}

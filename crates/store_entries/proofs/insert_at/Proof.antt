@@ -7,8 +7,8 @@ use lib.ListN.{length, take}
 use lib.Seq.{length-take-le}
 use Rattle.model.specs.Tree.{isTree}
 use Rattle.names.specs.Answers.{asMode, entry}
-use Rattle.names.specs.Compact.{packed}
-use Rattle.names.proofs.CompactLaws.{name-short}
+use Rattle.names_compact.specs.Compact.{packed}
+use Rattle.names_compact.proofs.CompactLaws.{name-short}
 use Rattle.store_entries.proofs.Calls.{place-fits, insert-room, counts-fit, inserting}
 use borrow.Author.Needs.{needs}
 use Rattle.store_entries.proofs.insert_at.Statement.{statement}

@@ -6,7 +6,7 @@ use Prim.Native.Nat.{ℕ}
 use Rattle.model.specs.Search.{searched}
 use Rattle.model.specs.Tree.{key, asKind, isTree}
 use Rattle.names.specs.Answers.{asMode}
-use Rattle.names.specs.Compact.{Run, Tells, unpack}
+use Rattle.names_compact.specs.Compact.{Run, Tells, unpack}
 use Rattle.store_runs.specs.Runs.{runOf}
 use Rattle.store_slots.proofs.Calls.{searched-run}
 use borrow.Author.Needs.{needs}

@@ -8,7 +8,7 @@ use lib.ListN.{length, getD}
 use Rattle.model.proofs.Basics.{not-true, not-false}
 use Rattle.model.specs.Search.{searched}
 use Rattle.model.specs.Tree.{key, asKind}
-use Rattle.names.specs.Compact.{Run, Tells, unpack, offset, entryAt}
+use Rattle.names_compact.specs.Compact.{Run, Tells, unpack, offset, entryAt}
 use Rattle.store_runs.specs.Runs.{runOf}
 use Rattle.store_slots.proofs.Calls.{searched-run, run-fits}
 use Rattle.store_entries.proofs.Calls.{not-there, index-in, name-long, in-run, some-entry, some-names, removing}

@@ -5,7 +5,7 @@ use Prim.Native.Nat.{ℕ, _+_, _≤_}
 use native.Mathlib.Omega.{arith}
 use lib.ListN.{length, getD, take, length-append}
 use Rattle.names.specs.Answers.{entry}
-use Rattle.names.specs.Compact.{packed}
+use Rattle.names_compact.specs.Compact.{packed}
 use Rattle.names.specs.Splice.{splice}
 use Rattle.store_runs.specs.Runs.{total}
 use Rattle.store_runs.proofs.Laws.{total-within, splice-view}

@@ -7,8 +7,8 @@ use native.Mathlib.Omega.{arith}
 use Rattle.model.specs.Search.{searched}
 use Rattle.model.specs.Tree.{key, asKind, isTree}
 use Rattle.names.specs.Answers.{asMode}
-use Rattle.names.specs.Compact.{Run, Tells, unpack}
-use Rattle.names.proofs.CompactLaws.{name-short}
+use Rattle.names_compact.specs.Compact.{Run, Tells, unpack}
+use Rattle.names_compact.proofs.CompactLaws.{name-short}
 use Rattle.store_runs.specs.Runs.{runOf}
 use Rattle.store_slots.proofs.Calls.{searched-run}
 use Rattle.store_entries.proofs.Calls.{over-fits, rewriting, none-there}

@@ -4,7 +4,7 @@ use Rattle.model.specs.Tree.{nameBytes}
 use Rattle.store_slots.proofs.Calls.{searched-run, tree-run, tree-size, run-fits, dropped}
 use Rattle.store_slots.proofs.Relaid.{others-with, entries-in, names-in}
 use Rattle.store_slots.specs.View.{treeOf}
-use Rattle.names.specs.Compact.{Run, unpack}
+use Rattle.names_compact.specs.Compact.{Run, unpack}
 use lib.ListN.{length, getD}
 use native.Mathlib.Omega.{arith}
 use Prim.Native.Nat.{ℕ, _+_, _-_, _*_, _^_}

@@ -8,7 +8,7 @@ use lib.ListN.{length, getD}
 use Rattle.model.specs.Tree.{nameBytes}
 use Rattle.model.specs.Editor.{Cache}
 use Rattle.model.specs.Editor.{Editor as Model}
-use Rattle.names.specs.Compact.{Run, unpack}
+use Rattle.names_compact.specs.Compact.{Run, unpack}
 use Rattle.store_slots.specs.View.{treeOf}
 use Rattle.store_slots.specs.declared.Editor.{Editor}
 use Rattle.store_slots.proofs.Calls.{searched-run, tree-run, tree-size, run-fits}

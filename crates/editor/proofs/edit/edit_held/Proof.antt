@@ -8,7 +8,7 @@ use Rattle.model.specs.Paths.{full, refused}
 use Rattle.editor_terms.specs.Edits.{asEdit}
 use Rattle.editor_terms.specs.Objects.{tableOf}
 use Rattle.editor_terms.specs.declared.code.Code.the-variants.{WriteOpen, BadTable, CursorStale, PathRefused}
-use Rattle.editor_terms.proofs.FrontLaws.{full-short}
+use Rattle.names.proofs.FrontLaws.{full-short}
 use Rattle.editor.proofs.LookLaws.{begun, front-within}
 use Rattle.editor.proofs.EditLaws.{is-open, bad-table, is-stale, is-refused, is-settled}
 use borrow.Author.Needs.{needs}

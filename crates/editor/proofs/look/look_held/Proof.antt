@@ -5,7 +5,7 @@ use native.Mathlib.Omega.{arith}
 use Rattle.model.specs.Bytes.{Bytes}
 use Rattle.model.specs.Paths.{base, full}
 use Rattle.store_slots.specs.View.{editorOf}
-use Rattle.editor_terms.proofs.FrontLaws.{full-short}
+use Rattle.names.proofs.FrontLaws.{full-short}
 use Rattle.editor_walk.specs.Lookups.{lookedAs}
 use Rattle.editor.proofs.LookLaws.{looked-open, opened, begun, stale, path-refused, went-down, front-within}
 use borrow.Author.Needs.{needs}

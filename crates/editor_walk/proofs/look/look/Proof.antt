@@ -8,10 +8,10 @@ use Rattle.model.specs.Paths.{components}
 use Rattle.model.specs.Lookup as model
 use Rattle.model.specs.Bytes.{has}
 use Rattle.model.specs.Tree.{wellFormed}
-use Rattle.names.specs.Compact.{Run, unpack}
+use Rattle.names_compact.specs.Compact.{Run, unpack}
 use Rattle.store_slots.specs.View.{viewOf, pathOf}
 use Rattle.store_slots.proofs.Calls.{searched-run, tree-run}
-use Rattle.editor_terms.proofs.FrontLaws.{front-long, piece-short}
+use Rattle.names.proofs.FrontLaws.{front-long, piece-short}
 use Rattle.editor_walk.proofs.ComponentLaws.{piece-plain}
 use Rattle.editor_walk.proofs.LookupLaws.{Looking, look-begin, look-empty, look-over, look-shorter, look-next}
 use Rattle.editor_walk.proofs.look.look.Statement.{statement}

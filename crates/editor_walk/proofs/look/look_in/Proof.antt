@@ -4,7 +4,7 @@ use borrow.Author.Needs.{needs}
 use Rattle.model.specs.Tree.{entryOfLookup}
 use Rattle.model.proofs.Basics.{not-true, not-false}
 use Rattle.model.proofs.SoundTrees.{sound-well}
-use Rattle.names.specs.Compact.{unpack}
+use Rattle.names_compact.specs.Compact.{unpack}
 use Rattle.store_runs.specs.Digits.{digits}
 use Rattle.store_runs.specs.Runs.{cut}
 use Rattle.store_runs.proofs.Laws.{length-cut}

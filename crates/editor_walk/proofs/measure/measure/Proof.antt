@@ -12,7 +12,7 @@ use Rattle.store_slots.specs.View.{viewOf, pathOf}
 use Rattle.store_slots.proofs.Cached.{cached-view}
 use Rattle.editor_terms.specs.Edits.{asEdit}
 use Rattle.editor_terms.specs.Objects.{tableOf}
-use Rattle.editor_terms.proofs.FrontLaws.{front-long, piece-short}
+use Rattle.names.proofs.FrontLaws.{front-long, piece-short}
 use Rattle.editor_walk.specs.Counted.{countsAs}
 use Rattle.editor_walk.proofs.ComponentLaws.{piece-plain}
 use Rattle.editor_walk.proofs.MeasureLaws.{Measuring, stored, measure-empty, measure-begin, measure-over, measure-shorter, measure-next}

@@ -4,7 +4,7 @@ use native.Mathlib.Omega.{arith}
 use Rattle.model.specs.Map.{rising}
 use Rattle.model.specs.Tree.{Tree, key, entryOf}
 use Rattle.model.specs.Raw.{readTree}
-use Rattle.names.specs.Compact.{Run, unpack}
+use Rattle.names_compact.specs.Compact.{Run, unpack}
 use Rattle.editor_terms.specs.Edits.{partsOf}
 use Rattle.editor_walk.proofs.MeasureLaws.{stored-tree, stands-as}
 use borrow.Author.Needs.{needs}

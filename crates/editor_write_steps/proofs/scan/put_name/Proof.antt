@@ -5,10 +5,10 @@ use lib.ListN.{length, take}
 use Prim.Native.Nat.{ℕ, _+_, _≤_}
 use Rattle.model.specs.Bytes.{Bytes}
 use Rattle.model.specs.Paths.{join}
-use Rattle.names.specs.Compact.{unpack}
+use Rattle.names_compact.specs.Compact.{unpack}
 use Rattle.names.specs.Splice.{splice}
-use Rattle.editor_terms.specs.Fronts.{lead}
-use Rattle.editor_terms.proofs.FrontLaws.{name-after, lead-stays}
+use Rattle.names.specs.Fronts.{lead}
+use Rattle.names.proofs.FrontLaws.{name-after, lead-stays}
 use Rattle.editor_write_steps.proofs.ScanLaws.{good-at}
 use borrow.Author.Needs.{needs}
 use Rattle.editor_write_steps.proofs.scan.put_name.Statement.{statement}

@@ -5,7 +5,7 @@ use lib.ListN.{length}
 use mathlib.Core.List.{[], _∷_}
 use Rattle.model.specs.Bytes.{Bytes}
 use Rattle.model.specs.Tree.{Tree}
-use Rattle.names.specs.Compact.{Run, unpack}
+use Rattle.names_compact.specs.Compact.{Run, unpack}
 use Rattle.store_slots.specs.View.{pathOf, treeOf}
 use Rattle.store_taken.specs.Taken.{goingOf}
 use Rattle.store_runs.proofs.FindLaws.{cut-at}

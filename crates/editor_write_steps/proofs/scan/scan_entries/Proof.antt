@@ -5,8 +5,8 @@ use Prim.Native.Nat.{_-_, _≤_}
 use lib.Seq.{length-take-le}
 use lib.ListN.{length, take}
 use Rattle.store_runs.specs.Runs.{Sound}
-use Rattle.editor_terms.specs.Fronts.{lead}
-use Rattle.names.proofs.CompactLaws.{walk-in, walk-at, walk-more}
+use Rattle.names.specs.Fronts.{lead}
+use Rattle.names_compact.proofs.CompactLaws.{walk-in, walk-at, walk-more}
 use Rattle.editor_write_steps.proofs.ScanLaws.{Scanning, scan-begin, scan-end, scan-more, lead-short}
 use Rattle.editor_write_steps.proofs.scan.scan_entries.Statement.{statement}
 use Rattle.editor_write_steps.proofs.scan.scan_entries.Tie as tie

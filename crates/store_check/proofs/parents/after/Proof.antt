@@ -3,7 +3,7 @@ use mathlib.Core.Path.{refl}
 use Prim.Native.Nat.{_-_}
 use native.Mathlib.Omega.{arith}
 use lib.ListN.{length}
-use Rattle.names.proofs.CompactLaws.{Mark}
+use Rattle.names_compact.proofs.CompactLaws.{Mark}
 use Rattle.store_check.specs.Parents.{Starts}
 use Rattle.store_check.proofs.ChildLaws.{starts-first, starts-at, starts-next, starts-named}
 use Rattle.store_check.proofs.parents.after.Statement.{statement}

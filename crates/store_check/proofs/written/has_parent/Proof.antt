@@ -11,7 +11,7 @@ use Rattle.model.specs.Tree.{Tree, entryOf, wellFormed}
 use Rattle.model.specs.Paths.{base, dir}
 use Rattle.model.specs.Valid.{isTreeEntry, hasParent}
 use Rattle.model.proofs.DirBaseLaws.{base-plain}
-use Rattle.names.specs.Compact.{unpack, Run}
+use Rattle.names_compact.specs.Compact.{unpack, Run}
 use Rattle.store_runs.specs.declared.runs.Found.the-variants.{At}
 use Rattle.store_runs.proofs.FindLaws.{cut-at}
 use Rattle.store_slots.specs.View.{Used, pathOf, treeOf}

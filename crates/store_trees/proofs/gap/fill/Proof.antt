@@ -3,7 +3,7 @@ use mathlib.Core.Path.{_≡_, sym, ap, _∙_, subst}
 use Prim.Native.Nat.{_+_, _-_, _≤_}
 use native.Mathlib.Omega.{arith}
 use lib.ListN.{length}
-use Rattle.names.specs.Compact.{packedAll, Takes}
+use Rattle.names_compact.specs.Compact.{packedAll, Takes}
 use Rattle.names.specs.Splice.{splice}
 use Rattle.store_runs.proofs.MoveLaws.{length-part}
 use Rattle.store_trees.proofs.Gaps.{gap-fits, put-mid, fill-view, fill-sound}

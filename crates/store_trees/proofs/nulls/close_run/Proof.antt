@@ -5,7 +5,7 @@ use Prim.Native.Nat.{ℕ, _+_, _-_}
 use native.Mathlib.Omega.{arith}
 use lib.ListN.{length, take, drop, getD}
 use Rattle.model.specs.Tree.{null, withoutId}
-use Rattle.names.specs.Compact.{packedAll, unpack, Run}
+use Rattle.names_compact.specs.Compact.{packedAll, unpack, Run}
 use Rattle.names.specs.Splice.{splice}
 use Rattle.store_runs.specs.Runs.{runOf, total}
 use Rattle.store_runs.proofs.FindLaws.{cut-at}

@@ -6,7 +6,7 @@ use native.Mathlib.Omega.{arith}
 use lib.ListN.{length, getD}
 use Rattle.model.specs.Bytes.{same}
 use Rattle.model.specs.Tree.{null}
-use Rattle.names.specs.Compact.{packed}
+use Rattle.names_compact.specs.Compact.{packed}
 use Rattle.names.specs.Splice.{splice}
 use Rattle.store_runs.specs.Moves.{part}
 use Rattle.store_trees.proofs.NullLaws.{Closing, Hand, close-begin, close-end, hand, close-gone, close-kept}

@@ -4,7 +4,7 @@ use native.Mathlib.Omega.{arith}
 use lib.ListN.{length}
 use Rattle.model.specs.Raw.{rawTree}
 use Rattle.model.specs.Tree.{Tree}
-use Rattle.names.specs.Compact.{Run, unpack}
+use Rattle.names_compact.specs.Compact.{Run, unpack}
 use Rattle.names.specs.Splice.{splice}
 use Rattle.store_slots.specs.View.{treeOf}
 use Rattle.store_trees.proofs.Reading.{run-there, tree-there}

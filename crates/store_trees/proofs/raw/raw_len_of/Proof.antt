@@ -6,7 +6,7 @@ use native.Mathlib.Omega.{arith}
 use lib.ListN.{length}
 use Rattle.model.specs.Raw.{rawTree}
 use Rattle.model.specs.Tree.{Tree}
-use Rattle.names.specs.Compact.{Run, unpack}
+use Rattle.names_compact.specs.Compact.{Run, unpack}
 use Rattle.store_trees.proofs.Reading.{run-there, run-small, tree-there}
 use Rattle.store_trees.proofs.raw.raw_len_of.Statement.{statement}
 use Rattle.store_trees.proofs.raw.raw_len_of.Tie as tie
