@@ -7,12 +7,12 @@ ghost use Rattle.model.specs.Walk as walk;
 ghost use Rattle.editor_terms.specs.Objects.{tableOf};
 ghost use Rattle.editor.specs.Lent.{lent, Does};
 ghost use Rattle.adapter_numbers.specs.Numbers.{Numbers, putBy};
-use store_slots::Editor;
+use store_slots::Record;
 
 // Sets the entry at a path below a prefix: 14 where the mode is none of the five, or the id has not 20 bytes.
 #[no_mangle]
 pub extern "C" fn tree_editor_upsert_at(
-    ed: &mut Editor,
+    ed: &mut Record,
     plens: &mut [u64],
     paths: &mut [u8],
     tlens: &mut [u64],
@@ -52,7 +52,7 @@ pub extern "C" fn tree_editor_upsert_at(
 // Sets the entry at a path.
 #[no_mangle]
 pub extern "C" fn tree_editor_upsert(
-    ed: &mut Editor,
+    ed: &mut Record,
     plens: &mut [u64],
     paths: &mut [u8],
     tlens: &mut [u64],
@@ -90,7 +90,7 @@ pub extern "C" fn tree_editor_upsert(
 // Removes the entry at a path below a prefix.
 #[no_mangle]
 pub extern "C" fn tree_editor_remove_at(
-    ed: &mut Editor,
+    ed: &mut Record,
     plens: &mut [u64],
     paths: &mut [u8],
     tlens: &mut [u64],
@@ -126,7 +126,7 @@ pub extern "C" fn tree_editor_remove_at(
 // Removes the entry at a path.
 #[no_mangle]
 pub extern "C" fn tree_editor_remove(
-    ed: &mut Editor,
+    ed: &mut Record,
     plens: &mut [u64],
     paths: &mut [u8],
     tlens: &mut [u64],
@@ -160,7 +160,7 @@ pub extern "C" fn tree_editor_remove(
 // Removes the entry at a path below a prefix, which must not be a tree.
 #[no_mangle]
 pub extern "C" fn tree_editor_remove_leaf_at(
-    ed: &mut Editor,
+    ed: &mut Record,
     plens: &mut [u64],
     paths: &mut [u8],
     tlens: &mut [u64],
@@ -196,7 +196,7 @@ pub extern "C" fn tree_editor_remove_leaf_at(
 // Removes the entry at a path, which must not be a tree.
 #[no_mangle]
 pub extern "C" fn tree_editor_remove_leaf(
-    ed: &mut Editor,
+    ed: &mut Record,
     plens: &mut [u64],
     paths: &mut [u8],
     tlens: &mut [u64],
@@ -230,7 +230,7 @@ pub extern "C" fn tree_editor_remove_leaf(
 // Opens a cursor at a path, where a tree is then cached.
 #[no_mangle]
 pub extern "C" fn tree_editor_cursor_at(
-    ed: &mut Editor,
+    ed: &mut Record,
     plens: &mut [u64],
     paths: &mut [u8],
     tlens: &mut [u64],

@@ -6,7 +6,7 @@ ghost use Rattle.editor.specs.Lent.{lent, Good};
 ghost use Rattle.adapter.specs.Reads.{Tells, Gives, Gets};
 use editor_walk::look::Looked;
 use names::mode::Mode;
-use store_slots::Editor;
+use store_slots::Record;
 
 // The number that a lookup gives; the id of the entry goes to the front of the slice.
 fn given(found: Looked, id: &mut [u8]) -> u32
@@ -29,7 +29,7 @@ fn given(found: Looked, id: &mut [u8]) -> u32
 // The entry at a path: its mode, with its id at the front of the slice; 0 where there is none; or the number of the refusal.
 #[no_mangle]
 pub extern "C" fn tree_editor_get(
-    ed: Editor,
+    ed: Record,
     plens: &[u64],
     paths: &[u8],
     tlens: &[u64],
@@ -49,7 +49,7 @@ pub extern "C" fn tree_editor_get(
 // The entry at a path below a prefix.
 #[no_mangle]
 pub extern "C" fn tree_editor_get_at(
-    ed: Editor,
+    ed: Record,
     plens: &[u64],
     paths: &[u8],
     tlens: &[u64],
@@ -70,7 +70,7 @@ pub extern "C" fn tree_editor_get_at(
 // 1 where record and slices hold an editor, else 0.
 #[no_mangle]
 pub extern "C" fn tree_editor_holds(
-    ed: Editor,
+    ed: Record,
     plens: &[u64],
     paths: &[u8],
     tlens: &[u64],

@@ -1,12 +1,12 @@
 // Reading the open request, for C.
 ghost use Rattle.editor.specs.Lent.{lent};
 ghost use Rattle.adapter_numbers.specs.Asks.{slices, Asks};
-use store_slots::Editor;
+use store_slots::Record;
 
 // Writes the raw tree that is requested and the path it belongs at to the fronts of the slices.
 #[no_mangle]
 pub extern "C" fn tree_editor_request(
-    ed: Editor,
+    ed: Record,
     plens: &[u64],
     paths: &[u8],
     tlens: &[u64],

@@ -3,12 +3,12 @@ ghost use Rattle.model.specs.Calls.{setRoot};
 ghost use Rattle.model.specs.Formats.{sha1};
 ghost use Rattle.editor.specs.Lent.{lent, Does};
 ghost use Rattle.editor.specs.Roots.{Makes};
-use store_slots::Editor;
+use store_slots::Record;
 
 // Makes an editor with this root.
 #[no_mangle]
 pub extern "C" fn tree_editor_new(
-    ed: &mut Editor,
+    ed: &mut Record,
     plens: &mut [u64],
     paths: &mut [u8],
     tlens: &mut [u64],
@@ -28,7 +28,7 @@ pub extern "C" fn tree_editor_new(
 // Sets the root, and drops every cached tree.
 #[no_mangle]
 pub extern "C" fn tree_editor_set_root(
-    ed: &mut Editor,
+    ed: &mut Record,
     plens: &mut [u64],
     paths: &mut [u8],
     tlens: &mut [u64],

@@ -5,12 +5,12 @@ ghost use Rattle.model.specs.Write.{begun, failed};
 ghost use Rattle.editor.specs.Lent.{lent, Does};
 ghost use Rattle.adapter_numbers.specs.Asks.{slices, AnswersAndAsks};
 ghost use Rattle.adapter_numbers.specs.Numbers.{Numbers, answerBy};
-use store_slots::Editor;
+use store_slots::Record;
 
 // Begins a write from the root.
 #[no_mangle]
 pub extern "C" fn tree_editor_begin(
-    ed: &mut Editor,
+    ed: &mut Record,
     plens: &mut [u64],
     paths: &mut [u8],
     tlens: &mut [u64],
@@ -29,7 +29,7 @@ pub extern "C" fn tree_editor_begin(
 // Begins a write from the tree cached at a prefix.
 #[no_mangle]
 pub extern "C" fn tree_editor_begin_at(
-    ed: &mut Editor,
+    ed: &mut Record,
     plens: &mut [u64],
     paths: &mut [u8],
     tlens: &mut [u64],
@@ -49,7 +49,7 @@ pub extern "C" fn tree_editor_begin_at(
 // Answers the open request with the id of the tree that was requested: 14 where it has not 20 bytes.
 #[no_mangle]
 pub extern "C" fn tree_editor_answer(
-    ed: &mut Editor,
+    ed: &mut Record,
     plens: &mut [u64],
     paths: &mut [u8],
     tlens: &mut [u64],
@@ -70,7 +70,7 @@ pub extern "C" fn tree_editor_answer(
 // 20 bytes, or where there is no room.
 #[no_mangle]
 pub extern "C" fn tree_editor_answer_and_request(
-    ed: &mut Editor,
+    ed: &mut Record,
     plens: &mut [u64],
     paths: &mut [u8],
     tlens: &mut [u64],
@@ -108,7 +108,7 @@ pub extern "C" fn tree_editor_answer_and_request(
 // Fails the open request: the start tree goes back as it stands, the other taken trees are lost.
 #[no_mangle]
 pub extern "C" fn tree_editor_fail(
-    ed: &mut Editor,
+    ed: &mut Record,
     plens: &mut [u64],
     paths: &mut [u8],
     tlens: &mut [u64],

@@ -13,11 +13,11 @@ use editor_terms::edit::Edit;
 use editor_terms::edit::RemoveKind;
 use names::mode::Mode;
 use names::mode::ModeRead;
-use store_slots::Editor;
+use store_slots::Record;
 
 // An edit at a path below a prefix.
 fn edited(
-    ed: Editor,
+    ed: Record,
     plens: &mut [u64],
     paths: &mut [u8],
     tlens: &mut [u64],
@@ -59,7 +59,7 @@ fn edited(
 
 // Sets the entry at a path below a prefix: 14 where the mode is none of the five, or the id has not 20 bytes.
 pub fn upsert_at(
-    ed: Editor,
+    ed: Record,
     plens: &mut [u64],
     paths: &mut [u8],
     tlens: &mut [u64],
@@ -104,7 +104,7 @@ pub fn upsert_at(
 
 // Sets the entry at a path.
 pub fn upsert(
-    ed: Editor,
+    ed: Record,
     plens: &mut [u64],
     paths: &mut [u8],
     tlens: &mut [u64],
@@ -140,7 +140,7 @@ pub fn upsert(
 
 // Removes the entry at a path below a prefix.
 pub fn remove_at(
-    ed: Editor,
+    ed: Record,
     plens: &mut [u64],
     paths: &mut [u8],
     tlens: &mut [u64],
@@ -175,7 +175,7 @@ pub fn remove_at(
 
 // Removes the entry at a path.
 pub fn remove(
-    ed: Editor,
+    ed: Record,
     plens: &mut [u64],
     paths: &mut [u8],
     tlens: &mut [u64],
@@ -207,7 +207,7 @@ pub fn remove(
 
 // Removes the entry at a path below a prefix, which must not be a tree.
 pub fn remove_leaf_at(
-    ed: Editor,
+    ed: Record,
     plens: &mut [u64],
     paths: &mut [u8],
     tlens: &mut [u64],
@@ -242,7 +242,7 @@ pub fn remove_leaf_at(
 
 // Removes the entry at a path, which must not be a tree.
 pub fn remove_leaf(
-    ed: Editor,
+    ed: Record,
     plens: &mut [u64],
     paths: &mut [u8],
     tlens: &mut [u64],
@@ -274,7 +274,7 @@ pub fn remove_leaf(
 
 // Opens a cursor at a path, where a tree is then cached.
 pub fn cursor_at(
-    ed: Editor,
+    ed: Record,
     plens: &mut [u64],
     paths: &mut [u8],
     tlens: &mut [u64],

@@ -1,5 +1,5 @@
 // The calls that change an editor, with numbers for their answers, modes and ids as C has them.
-use store_slots::Editor;
+use store_slots::Record;
 
 pub mod edit;
 pub mod next;
@@ -10,5 +10,5 @@ pub mod write;
 // What a call answers: its number, and the record then.
 pub struct Numbered {
     pub code: u8,
-    pub ed: Editor,
+    pub ed: Record,
 }

@@ -3,7 +3,7 @@ ghost use Rattle.store_check.specs.Decides.{Decides};
 ghost use Rattle.editor.specs.Lent.{lent};
 ghost use Rattle.adapter_numbers.specs.Asks.{slices, Whole, AnswersAndAsks};
 use crate::Numbered;
-use store_slots::Editor;
+use store_slots::Record;
 
 // Whether the id has 20 bytes, and the slices have room for any path, two lengths and a number.
 fn whole(id: &[u8], path: &[u8], lens: &[usize], next: &[u8]) -> bool
@@ -27,7 +27,7 @@ fn whole(id: &[u8], path: &[u8], lens: &[usize], next: &[u8]) -> bool
 // Answers the open request with the id of the tree that was requested, and reads the request that is open then: 14 where the id has not 20 bytes, or
 // where there is no room.
 pub fn answer_and_request(
-    ed: Editor,
+    ed: Record,
     plens: &mut [u64],
     paths: &mut [u8],
     tlens: &mut [u64],

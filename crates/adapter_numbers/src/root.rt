@@ -4,11 +4,11 @@ ghost use Rattle.model.specs.Formats.{sha1};
 ghost use Rattle.editor.specs.Lent.{lent, Does};
 ghost use Rattle.editor.specs.Roots.{Makes};
 use crate::Numbered;
-use store_slots::Editor;
+use store_slots::Record;
 
 // Makes an editor with this root.
 pub fn new(
-    ed: Editor,
+    ed: Record,
     plens: &mut [u64],
     paths: &mut [u8],
     tlens: &mut [u64],
@@ -31,7 +31,7 @@ pub fn new(
 
 // Sets the root, and drops every cached tree.
 pub fn set_root(
-    ed: Editor,
+    ed: Record,
     plens: &mut [u64],
     paths: &mut [u8],
     tlens: &mut [u64],

@@ -5,11 +5,11 @@ ghost use Rattle.model.specs.Write.{begun, failed};
 ghost use Rattle.editor.specs.Lent.{lent, Does};
 ghost use Rattle.adapter_numbers.specs.Numbers.{Numbers, answerBy};
 use crate::Numbered;
-use store_slots::Editor;
+use store_slots::Record;
 
 // Begins a write from the root.
 pub fn begin(
-    ed: Editor,
+    ed: Record,
     plens: &mut [u64],
     paths: &mut [u8],
     tlens: &mut [u64],
@@ -31,7 +31,7 @@ pub fn begin(
 
 // Begins a write from the tree cached at a prefix.
 pub fn begin_at(
-    ed: Editor,
+    ed: Record,
     plens: &mut [u64],
     paths: &mut [u8],
     tlens: &mut [u64],
@@ -54,7 +54,7 @@ pub fn begin_at(
 
 // Answers the open request with the id of the tree that was requested: 14 where it has not 20 bytes.
 pub fn answer(
-    ed: Editor,
+    ed: Record,
     plens: &mut [u64],
     paths: &mut [u8],
     tlens: &mut [u64],
@@ -88,7 +88,7 @@ pub fn answer(
 
 // Fails the open request: the start tree goes back as it stands, the other taken trees are lost.
 pub fn fail(
-    ed: Editor,
+    ed: Record,
     plens: &mut [u64],
     paths: &mut [u8],
     tlens: &mut [u64],

@@ -26,7 +26,7 @@ use Rattle.names.specs.declared.tree.Checked.the-variants.{Broken}
 use Rattle.store_runs.specs.Digits.{digits}
 use Rattle.store_runs.specs.Runs.{cut}
 use Rattle.store_slots.specs.View.{slotsOf, gather, heldAs, heldAt, viewOf, asideOf, stackedOf, writeOf, editorOf, Laid, Holds, SameWrite, treeRoom, fresh}
-use Rattle.store_slots.specs.declared.Editor.{Editor}
+use Rattle.store_slots.specs.declared.Record.{Record}
 use Rattle.store_trees.proofs.Loads.{takes, as-many, as-long}
 use Rattle.editor_walk.proofs.LandLaws.{size-none}
 use Rattle.store_check.specs.Decides.{Decides}
@@ -138,7 +138,7 @@ module _ (raw : Bytes) (s : Lent) (n m : ℕ) (size : sizeOf (readTree 20 raw) �
 
 -- ---- the fronts put back before what lies behind them
 
-module _ (q : Editor) (e₁ e₂ e₃ e₄ p₁ p₂ p₃ p₄ order : List ℕ) (l₁ : length p₁ ≡ 64) (l₂ : length p₂ ≡ 8192) (l₃ : length p₃ ≡ 64) (l₄ : length p₄ ≡ 38912) where
+module _ (q : Record) (e₁ e₂ e₃ e₄ p₁ p₂ p₃ p₄ order : List ℕ) (l₁ : length p₁ ≡ 64) (l₂ : length p₂ ≡ 8192) (l₃ : length p₃ ≡ 64) (l₄ : length p₄ ≡ 38912) where
   abbrev pub back : Lent
   back = lent q (p₁ ++ drop 64 e₁) (p₂ ++ drop 8192 e₂) (p₃ ++ drop 64 e₃) (p₄ ++ drop 38912 e₄) order
 
@@ -164,7 +164,7 @@ module _ (q : Editor) (e₁ e₂ e₃ e₄ p₁ p₂ p₃ p₄ order : List ℕ)
             (subst (λ (x : List ℕ). Holds sha1 q p₁ p₂ p₃ x (take 64 order)) (sym (take-at p₄ (drop 38912 e₄) (treeRoom (sha1 .width)) (l₄ ∙ sym sha1-room))) h)));
       }
 
-  pub back-behind : (ed : Editor) → Behind (lent ed e₁ e₂ e₃ e₄ order) back
+  pub back-behind : (ed : Record) → Behind (lent ed e₁ e₂ e₃ e₄ order) back
   back-behind ed =
       record {
         plens = drop-at p₁ (drop 64 e₁) 64 l₁;
@@ -176,7 +176,7 @@ module _ (q : Editor) (e₁ e₂ e₃ e₄ p₁ p₂ p₃ p₄ order : List ℕ)
 
 -- ---- the store with the root alone
 
-module _ (q : Editor) (plens paths tlens trees : List ℕ) (t : Tree) (l : Laid 20 q plens paths tlens trees) (h : q .hidden ≡ q .free) (o : SameWrite fresh q)
+module _ (q : Record) (plens paths tlens trees : List ℕ) (t : Tree) (l : Laid 20 q plens paths tlens trees) (h : q .hidden ≡ q .free) (o : SameWrite fresh q)
     (v : viewOf 20 q plens paths tlens trees ≡ alone t) (order : List ℕ) where
   pub root-view : editorOf 20 q plens paths tlens trees order ≡ rootOnly t
   unfolding rootOnly

@@ -4,13 +4,13 @@ use mathlib.Core.Path.{_≡_}
 use mathlib.Core.List.{List}
 use Rattle.model.specs.Calls.{Answer as Answered}
 use Rattle.store_slots.specs.View.{editorOf}
-use Rattle.store_slots.specs.declared.Editor.{Editor}
+use Rattle.store_slots.specs.declared.Record.{Record}
 use Rattle.editor_terms.specs.Answers.{codeNumber}
 use Rattle.editor_walk.specs.Steps.{Standing}
 use Rattle.editor_walk.specs.declared.apply.Answer.{Answer}
 
 -- the call was answered as the model says: the numbers from 5 on left every byte as it was; after the others the store is laid out, with no write open
-pub record EditedAs (r₀ : Editor) (plens₀ paths₀ tlens₀ trees₀ order : List ℕ) (m : Answered) (a : Answer) (plens paths tlens trees : List ℕ) : Type 0 where
+pub record EditedAs (r₀ : Record) (plens₀ paths₀ tlens₀ trees₀ order : List ℕ) (m : Answered) (a : Answer) (plens paths tlens trees : List ℕ) : Type 0 where
   pub made : record { code = codeNumber (a .code); editor = editorOf 20 (a .ed) plens paths tlens trees order } ≡ m
   pub same : 5 ≤ codeNumber (a .code) → (a .ed ≡ r₀) × (plens ≡ plens₀) × (paths ≡ paths₀) × (tlens ≡ tlens₀) × (trees ≡ trees₀)
   pub stand : (5 ≤ codeNumber (a .code) → ⊥) → (r₀ .«open» ≡ 0) × Standing r₀ (a .ed) plens paths tlens trees

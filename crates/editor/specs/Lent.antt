@@ -7,19 +7,19 @@ use Rattle.model.specs.Calls.{Answer}
 use Rattle.model.specs.Editor.{Editor as Model}
 use Rattle.model.specs.Formats.{sha1}
 use Rattle.store_slots.specs.View.{treeRoom, editorOf}
-use Rattle.store_slots.specs.declared.Editor.{Editor}
+use Rattle.store_slots.specs.declared.Record.{Record}
 use Rattle.store_check.specs.Stored.{Stored}
 
 -- the record, and the slices as they are lent, which may be longer than a store
 pub record Lent : Type 0 where
-  pub ed : Editor
+  pub ed : Record
   pub plens : List ℕ
   pub paths : List ℕ
   pub tlens : List ℕ
   pub trees : List ℕ
   pub order : List ℕ
 
-abbrev pub lent : Editor → List ℕ → List ℕ → List ℕ → List ℕ → List ℕ → Lent
+abbrev pub lent : Record → List ℕ → List ℕ → List ℕ → List ℕ → List ℕ → Lent
 lent ed plens paths tlens trees order = record { ed = ed; plens = plens; paths = paths; tlens = tlens; trees = trees; order = order }
 
 -- the slices are as long as a store

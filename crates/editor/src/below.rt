@@ -21,11 +21,11 @@ use editor_terms::edit::RemoveKind;
 use editor_terms::id::Id;
 use editor_walk::apply::Answer;
 use names::mode::EntryKind;
-use store_slots::Editor;
+use store_slots::Record;
 
 // An edit at a path below a cursor.
 fn edited(
-    ed: Editor,
+    ed: Record,
     plens: &mut [u64],
     paths: &mut [u8],
     tlens: &mut [u64],
@@ -64,7 +64,7 @@ fn edited(
 
 // Sets the entry at a path below a cursor.
 pub fn upsert(
-    ed: Editor,
+    ed: Record,
     plens: &mut [u64],
     paths: &mut [u8],
     tlens: &mut [u64],
@@ -101,7 +101,7 @@ pub fn upsert(
 
 // Removes the entry at a path below a cursor.
 pub fn remove(
-    ed: Editor,
+    ed: Record,
     plens: &mut [u64],
     paths: &mut [u8],
     tlens: &mut [u64],
@@ -136,7 +136,7 @@ pub fn remove(
 
 // Removes the entry at a path below a cursor, which must not be a tree.
 pub fn remove_leaf(
-    ed: Editor,
+    ed: Record,
     plens: &mut [u64],
     paths: &mut [u8],
     tlens: &mut [u64],
@@ -172,7 +172,7 @@ pub fn remove_leaf(
 // The opening of a cursor: its number, the record, and the cursor, which stands at the root where it is refused.
 pub struct Opened {
     pub code: Code,
-    pub ed: Editor,
+    pub ed: Record,
     pub cursor: Cursor,
 }
 
@@ -190,7 +190,7 @@ fn placed(path: &[u8], code: Code) -> Cursor
 
 // Opens a cursor at a path, where a tree is then cached.
 pub fn cursor_at(
-    ed: Editor,
+    ed: Record,
     plens: &mut [u64],
     paths: &mut [u8],
     tlens: &mut [u64],

@@ -8,7 +8,7 @@ ghost use Rattle.editor_walk.specs.Lookups.{lookedAs};
 ghost use Rattle.editor.specs.Lent.{lent};
 ghost use Rattle.editor.specs.Looks.{Looks, standing, prefixOf, cursorAt};
 use editor_walk::look::Looked;
-use store_slots::Editor;
+use store_slots::Record;
 
 pub struct Cursor {
     pub prefix: [u8; 1024],
@@ -46,7 +46,7 @@ pub fn sound(cursor: Cursor) -> Cursor
 
 // The entry at a path below a cursor.
 pub fn get(
-    ed: Editor,
+    ed: Record,
     plens: &[u64],
     paths: &[u8],
     tlens: &[u64],

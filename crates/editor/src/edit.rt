@@ -23,11 +23,11 @@ use editor_terms::edit::RemoveKind;
 use editor_terms::id::Id;
 use editor_walk::apply::Answer;
 use names::mode::EntryKind;
-use store_slots::Editor;
+use store_slots::Record;
 
 // An edit at a path below a prefix, over slices as long as a store, which hold an editor.
 fn edit_held(
-    ed: Editor,
+    ed: Record,
     plens: &mut [u64],
     paths: &mut [u8],
     tlens: &mut [u64],
@@ -38,12 +38,12 @@ fn edit_held(
     prefix: &[u8],
     path: &[u8],
     edit: Edit,
-    deep: bool,
+    opening: bool,
 ) -> Answer
     requires { ⌜ Laid 20 ed (now plens) (now paths) (now tlens) (now trees) × (ed .«open» ≡ 0 → ed .hidden ≡ ed .free)
         × (ed .«open» ≡ 0 → valid sha1 (editorAt (viewOf 20 ed (now plens) (now paths) (now tlens) (now trees))) ≡ true) ⌝ }
     ensures { λ a. ⌜ ((order : List ℕ) → EditedAs ed (now (plens .entry)) (now (paths .entry)) (now (tlens .entry)) (now (trees .entry)) order
-        (model.edited sha1 (tableOf (now (ids .entry)) (now (ends .entry)) (now (raws .entry))) (asEdit edit) «deep» (now (prefix .entry)) (now (path .entry))
+        (model.edited sha1 (tableOf (now (ids .entry)) (now (ends .entry)) (now (raws .entry))) (asEdit edit) opening (now (prefix .entry)) (now (path .entry))
         (editorOf 20 ed (now (plens .entry)) (now (paths .entry)) (now (tlens .entry)) (now (trees .entry)) order)) a (now (plens .exit)) (now (paths .exit)) (now (tlens .exit)) (now (trees .exit))) ⌝ }
 {
     if ed.open != 0 {
@@ -82,16 +82,16 @@ fn edit_held(
                 &buf[..n],
                 path,
                 edit,
-                deep,
+                opening,
                 slot,
             )
         }
     }
 }
 
-// An edit, or with `deep` the opening of a cursor, at a path below a prefix.
+// An edit, or with `opening` the opening of a cursor, at a path below a prefix.
 pub fn edited(
-    ed: Editor,
+    ed: Record,
     plens: &mut [u64],
     paths: &mut [u8],
     tlens: &mut [u64],
@@ -103,9 +103,9 @@ pub fn edited(
     prefix: &[u8],
     path: &[u8],
     edit: Edit,
-    deep: bool,
+    opening: bool,
 ) -> Answer
-    ensures { λ a. ⌜ Does (model.edited sha1 (tableOf (now (ids .entry)) (now (ends .entry)) (now (raws .entry))) (asEdit edit) «deep» (now (prefix .entry)) (now (path .entry)))
+    ensures { λ a. ⌜ Does (model.edited sha1 (tableOf (now (ids .entry)) (now (ends .entry)) (now (raws .entry))) (asEdit edit) opening (now (prefix .entry)) (now (path .entry)))
         (lent ed (now (plens .entry)) (now (paths .entry)) (now (tlens .entry)) (now (trees .entry)) (now (order .entry))) (codeNumber (a .code))
         (lent (a .ed) (now (plens .exit)) (now (paths .exit)) (now (tlens .exit)) (now (trees .exit)) (now (order .exit))) ⌝ }
 {
@@ -127,13 +127,13 @@ pub fn edited(
         prefix,
         path,
         edit,
-        deep,
+        opening,
     )
 }
 
 // Sets the entry at a path.
 pub fn upsert(
-    ed: Editor,
+    ed: Record,
     plens: &mut [u64],
     paths: &mut [u8],
     tlens: &mut [u64],
@@ -170,7 +170,7 @@ pub fn upsert(
 
 // Removes the entry at a path.
 pub fn remove(
-    ed: Editor,
+    ed: Record,
     plens: &mut [u64],
     paths: &mut [u8],
     tlens: &mut [u64],
@@ -205,7 +205,7 @@ pub fn remove(
 
 // Removes the entry at a path, which must not be a tree.
 pub fn remove_leaf(
-    ed: Editor,
+    ed: Record,
     plens: &mut [u64],
     paths: &mut [u8],
     tlens: &mut [u64],

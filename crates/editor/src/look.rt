@@ -11,11 +11,11 @@ ghost use Rattle.editor.specs.Looks.{Looks};
 use crate::ready::Ready;
 use editor_terms::code::Code;
 use editor_walk::look::Looked;
-use store_slots::Editor;
+use store_slots::Record;
 
 // The entry at a path below a prefix, over slices as long as a store, which hold an editor.
 fn look_held(
-    ed: Editor,
+    ed: Record,
     plens: &[u64],
     paths: &[u8],
     tlens: &[u64],
@@ -43,7 +43,7 @@ fn look_held(
 
 // The entry at a path below a prefix.
 pub fn looked(
-    ed: Editor,
+    ed: Record,
     plens: &[u64],
     paths: &[u8],
     tlens: &[u64],
@@ -70,7 +70,7 @@ pub fn looked(
 
 // The entry at a path.
 pub fn get(
-    ed: Editor,
+    ed: Record,
     plens: &[u64],
     paths: &[u8],
     tlens: &[u64],

@@ -16,12 +16,12 @@ ghost use Rattle.editor.specs.Lent.{lent, Long, Does};
 ghost use Rattle.editor.specs.Roots.{Roots, Makes};
 use editor_terms::code::Code;
 use names::tree::Checked;
-use store_slots::Editor;
+use store_slots::Record;
 
 // What a call that may change the store answers: its number, and the record then.
 pub struct Answer {
     pub code: Code,
-    pub ed: Editor,
+    pub ed: Record,
 }
 
 // Caches a well-formed raw tree with so many entries and name bytes as the root, and nothing else, in slices as long as a store.
@@ -33,7 +33,7 @@ fn root_only(
     raw: &[u8],
     entries: usize,
     name_bytes: usize,
-) -> Editor
+) -> Record
     requires { ⌜ (length (now plens) ≡ 64) × (length (now paths) ≡ 8192) × (length (now tlens) ≡ 64) × (length (now trees) ≡ treeRoom 20)
         × (sizeOf (readTree 20 (now raw)) ≡ some (record { entries = entries; bytes = «name_bytes» })) × (entries ≤ 1024) × («name_bytes» ≤ 16384) ⌝ }
     ensures { λ q. ⌜ ((t : Tree) → readTree 20 (now (raw .entry)) ≡ some t → (order : List ℕ) → length order ≡ 64
@@ -59,7 +59,7 @@ fn root_only(
 
 // A new root in slices that are long enough: 12, then 5.
 fn rooted(
-    ed: Editor,
+    ed: Record,
     plens: &mut [u64],
     paths: &mut [u8],
     tlens: &mut [u64],
@@ -111,7 +111,7 @@ fn rooted(
 
 // Whether the slices are as long as a store.
 fn long_enough(plens: &[u64], paths: &[u8], tlens: &[u64], trees: &[u8], order: &[u64]) -> bool
-    ensures { λ b. ⌜ ((ed : Editor) → Decides (Long (lent ed (now (plens .entry)) (now (paths .entry)) (now (tlens .entry)) (now (trees .entry)) (now (order .entry)))) b) ⌝ }
+    ensures { λ b. ⌜ ((ed : Record) → Decides (Long (lent ed (now (plens .entry)) (now (paths .entry)) (now (tlens .entry)) (now (trees .entry)) (now (order .entry)))) b) ⌝ }
 {
     if plens.len() < 64 {
         return false;
@@ -133,7 +133,7 @@ fn long_enough(plens: &[u64], paths: &[u8], tlens: &[u64], trees: &[u8], order: 
 
 // Makes an editor with this root. Looks at no earlier content of the store.
 pub fn new(
-    ed: Editor,
+    ed: Record,
     plens: &mut [u64],
     paths: &mut [u8],
     tlens: &mut [u64],
@@ -155,7 +155,7 @@ pub fn new(
 
 // Sets the root, and drops every cached tree.
 pub fn set_root(
-    ed: Editor,
+    ed: Record,
     plens: &mut [u64],
     paths: &mut [u8],
     tlens: &mut [u64],

@@ -69,11 +69,11 @@ turnAs (Put kind id) true n t = walk.last (changed (Put kind id) n t)
 turnAs (Put kind id) false n t = walk.down (changed (Put kind id) n t) none
 turnAs (Down id) isLast n t = walk.down t (some (idBytes id))
 
--- whether the walk goes down after a turn; the opening of a cursor (`deep`) does so at the last component too
+-- whether the walk goes down after a turn; the opening of a cursor (`opening`) does so at the last component too
 abbrev pub goesOn : Bool → walk.Turn → Bool
-goesOn deep (walk.stop code) = false
-goesOn deep (walk.last t) = deep
-goesOn deep (walk.down t id) = true
+goesOn opening (walk.stop code) = false
+goesOn opening (walk.last t) = opening
+goesOn opening (walk.down t id) = true
 
 -- the counts after a turn, where this was seen
 abbrev pub putCounts : Seen → Bytes → Counts → Counts

@@ -110,14 +110,14 @@ pub fn turn_of(edit: Edit, last: bool, seen: Seen) -> Turn
     }
 }
 
-// Whether the walk goes down after a turn: the opening of a cursor (`deep`) does so at the last component too.
-pub fn goes_down(turn: Turn, last: bool, deep: bool) -> bool
-    ensures { λ r. ⌜ ((n : Bytes) (t : Tree) → r ≡ goesOn deep (turnAs turn «last» n t)) ⌝ }
+// Whether the walk goes down after a turn: the opening of a cursor (`opening`) does so at the last component too.
+pub fn goes_down(turn: Turn, last: bool, opening: bool) -> bool
+    ensures { λ r. ⌜ ((n : Bytes) (t : Tree) → r ≡ goesOn opening (turnAs turn «last» n t)) ⌝ }
 {
     match turn {
         Turn::Stop(_) => false,
-        Turn::Cut => deep,
-        Turn::Put(_, _) => { if last { deep } else { true } }
+        Turn::Cut => opening,
+        Turn::Put(_, _) => { if last { opening } else { true } }
         Turn::Down(_) => true,
     }
 }

@@ -16,7 +16,7 @@ use Rattle.model.proofs.LimitLaws.{Roomy, roomy}
 use Rattle.store_runs.specs.Digits.{digits}
 use Rattle.store_runs.specs.Runs.{total}
 use Rattle.store_runs.proofs.DigitLaws.{length-digits}
-use Rattle.store_slots.specs.declared.Editor.{Editor}
+use Rattle.store_slots.specs.declared.Record.{Record}
 use Rattle.store_slots.specs.View.{viewOf, Laid}
 use Rattle.store_slots.proofs.Counts.{paths-is, slots-is}
 use Rattle.store_slots.proofs.Where.{Bits, digits-bits}
@@ -38,12 +38,12 @@ pub free-few : (n : ℕ) → total (digits 64 n) ≤ 64
 free-few n = omega (arith, bits-sum (digits 64 n) (digits-bits 64 n), length-digits 64 n)
 
 -- the record of a store that is laid out has the model's counts
-pub counts-view : (r : Editor) (plens paths tlens trees : List ℕ) → Laid 20 r plens paths tlens trees → recordCounts r ≡ countsOf (viewOf 20 r plens paths tlens trees)
+pub counts-view : (r : Record) (plens paths tlens trees : List ℕ) → Laid 20 r plens paths tlens trees → recordCounts r ≡ countsOf (viewOf 20 r plens paths tlens trees)
 unfolding countsOf
 counts-view r plens paths tlens trees L =
     same-counts (let q : 64 - total (digits 64 (r .free)) ≡ length (viewOf 20 r plens paths tlens trees) = omega (arith, slots-is 20 r plens paths tlens trees L) in q) (L .entries) (L .names) (sym (paths-is 20 r plens paths tlens trees L))
 
-pub counts-room : (r : Editor) (plens paths tlens trees : List ℕ) → Laid 20 r plens paths tlens trees → fits (viewOf 20 r plens paths tlens trees) ≡ true → within (recordCounts r) ≡ true
+pub counts-room : (r : Record) (plens paths tlens trees : List ℕ) → Laid 20 r plens paths tlens trees → fits (viewOf 20 r plens paths tlens trees) ≡ true → within (recordCounts r) ≡ true
 counts-room r plens paths tlens trees L f = ap within (counts-view r plens paths tlens trees L) ∙ within-fits (viewOf 20 r plens paths tlens trees) ∙ f
 
 -- the limits

@@ -17,7 +17,7 @@ use Rattle.model.specs.Walk.{Edit, isLeafRemoval, Entered, halt, into, enter, W
 use Rattle.model.proofs.Basics.{and-left, and-right, no-way, some-inj}
 use Rattle.store_runs.specs.Digits.{digits}
 use Rattle.store_runs.specs.Runs.{cut}
-use Rattle.store_slots.specs.declared.Editor.{Editor}
+use Rattle.store_slots.specs.declared.Record.{Record}
 use Rattle.store_slots.specs.View.{viewOf, Laid, Used, pathOf, SameWrite}
 use Rattle.editor_terms.specs.Answers.{codeNumber}
 use Rattle.editor_terms.specs.declared.code.Code.{Code}
@@ -30,14 +30,14 @@ use Rattle.editor_walk.proofs.LandLaws.{enter-there, enter-new, there-s
 use Rattle.editor_walk.specs.Steps.{Standing, LandFits, LandLeaves, Descended, downAs, Fitting, SteppedAs}
 use Rattle.editor_walk.specs.declared.apply.Walked.{Walked as Step}
 
-pub same-write : (r : Editor) → SameWrite r r
+pub same-write : (r : Record) → SameWrite r r
 same-write r = record { «open» = refl; aside = refl; stacked = refl; asked = refl }
 
-abbrev pub step : Bool → Code → ℕ → Editor → Step
+abbrev pub step : Bool → Code → ℕ → Record → Step
 step going code slot r = record { going = going; code = code; slot = slot; ed = r }
 
 -- going down, by what was found
-module _ (r : Editor) (plens paths tlens trees : List ℕ) (raws q : Bytes) (x : Landing) (f : LandFits r plens paths (viewOf 20 r plens paths tlens trees) raws q x) where
+module _ (r : Record) (plens paths tlens trees : List ℕ) (raws q : Bytes) (x : Landing) (f : LandFits r plens paths (viewOf 20 r plens paths tlens trees) raws q x) where
   abbrev view : Cache
   view = viewOf 20 r plens paths tlens trees
 
@@ -69,7 +69,7 @@ module _ (r : Editor) (plens paths tlens trees : List ℕ) (raws q : Bytes) (x :
   pub load-fits : {y : Raw} → x ≡ Load y → (find at q view ≡ none) × ((t : Tree) × RawIs raws y t × (fits (put at (q ↝ t) view) ≡ true))
   load-fits {y} e = subst (λ (z : Landing). LandFits r plens paths view raws q z) e f
 
-  module _ {r′ : Editor} {plens′ paths′ tlens′ trees′ : List ℕ} {s : ℕ} (st : Standing r r′ plens′ paths′ tlens′ trees′) (at-slot : Used r′ s × (pathOf plens′ paths′ s ≡ q)) where
+  module _ {r′ : Record} {plens′ paths′ tlens′ trees′ : List ℕ} {s : ℕ} (st : Standing r r′ plens′ paths′ tlens′ trees′) (at-slot : Used r′ s × (pathOf plens′ paths′ s ≡ q)) where
     pub down-fresh : x ≡ Fresh → viewOf 20 r′ plens′ paths′ tlens′ trees′ ≡ put at (q ↝ []) view → Descended r raws q view x (step true Done s r′) plens′ paths′ tlens′ trees′
     down-fresh e v =
         record {
@@ -132,7 +132,7 @@ pub ended-code : (n : ℕ) (c : Cache) → (ended n c .code ≡ n) × (ended n c
 unfolding ended
 ended-code n c = (refl, refl)
 
-module _ (T : Table) (e : Edit) (i : Option Bytes) {r : Editor} {plens paths tlens trees : List ℕ} (L : Laid 20 r plens paths tlens trees) (cl : r .hidden ≡ r .free) (raws q : Bytes) where
+module _ (T : Table) (e : Edit) (i : Option Bytes) {r : Record} {plens paths tlens trees : List ℕ} (L : Laid 20 r plens paths tlens trees) (cl : r .hidden ≡ r .free) (raws q : Bytes) where
   abbrev before : Cache
   before = viewOf 20 r plens paths tlens trees
 

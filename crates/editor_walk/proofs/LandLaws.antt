@@ -28,7 +28,7 @@ use Rattle.store_runs.specs.Runs.{cut}
 use Rattle.store_runs.proofs.Laws.{length-cut}
 use Rattle.store_runs.proofs.DigitLaws.{length-digits}
 use Rattle.store_runs.specs.declared.runs.Found.the-variants as F
-use Rattle.store_slots.specs.declared.Editor.{Editor}
+use Rattle.store_slots.specs.declared.Record.{Record}
 use Rattle.store_slots.specs.View.{viewOf, cachedOf, heldIn, Laid, Used, pathOf}
 use Rattle.store_slots.proofs.Cached.{cached-view}
 use Rattle.editor_terms.specs.Answers.{codeNumber}
@@ -153,7 +153,7 @@ lands-new raws x ds ps q (Load r) f p = (f, p)
 lands-new raws x ds ps q (Halt code) f p = (f, p)
 
 -- for a caller: what the answer says, in a store with no write open
-module _ (T : Table) (e : Edit) (i : Option Bytes) {r : Editor} {plens paths tlens trees : List ℕ} (L : Laid 20 r plens paths tlens trees) (cl : r .hidden ≡ r .free) (raws q : Bytes) (x : Landing)
+module _ (T : Table) (e : Edit) (i : Option Bytes) {r : Record} {plens paths tlens trees : List ℕ} (L : Laid 20 r plens paths tlens trees) (cl : r .hidden ≡ r .free) (raws q : Bytes) (x : Landing)
     (l : LandsAs raws (planned sha1 T (isLeafRemoval e) i) (digits 64 (r .hidden)) (cut plens paths) q x) where
   abbrev view : Cache
   view = viewOf 20 r plens paths tlens trees

@@ -25,7 +25,7 @@ use Rattle.store_runs.specs.Digits.{digits}
 use Rattle.store_runs.specs.Runs.{cut, runOf}
 use Rattle.store_runs.proofs.Laws.{length-cut}
 use Rattle.store_runs.specs.declared.runs.Found.the-variants as F
-use Rattle.store_slots.specs.declared.Editor.{Editor}
+use Rattle.store_slots.specs.declared.Record.{Record}
 use Rattle.store_slots.specs.View.{slotsOf, gather, viewOf, Laid, Used, pathOf, treeOf, SlotIs}
 use Rattle.store_slots.proofs.Cached.{cached-view}
 use Rattle.store_slots.proofs.Relaid.{find-slot}
@@ -107,7 +107,7 @@ module _ (ds : List ℕ) (ps : List Bytes) (t : Tree) (q n : Bytes) where
           )
 
 -- the loop
-pub record Looking (r : Editor) (plens paths tlens trees : List ℕ) (whole : Bytes) (goal : model.Looked) (path p : Bytes) (slot : ℕ) : Type 0 where
+pub record Looking (r : Record) (plens paths tlens trees : List ℕ) (whole : Bytes) (goal : model.Looked) (path p : Bytes) (slot : ℕ) : Type 0 where
   pub used : Used r slot
   pub front : Front whole (pathOf plens paths slot) p
   pub named : base p ≡ base path
@@ -117,7 +117,7 @@ pub look-empty : (path q : Bytes) (c : Cache) → length path ≡ 0 → model.mi
 look-empty [] q c e = refl
 look-empty (b ∷ bs) q c e = absurd (omega (arith, e))
 
-pub look-begin : (r : Editor) (plens paths tlens trees : List ℕ) (whole path : Bytes) (slot : ℕ) → Used r slot → whole ≡ full (pathOf plens paths slot) path → (length path ≡ 0 → ⊥) →
+pub look-begin : (r : Record) (plens paths tlens trees : List ℕ) (whole path : Bytes) (slot : ℕ) → Used r slot → whole ≡ full (pathOf plens paths slot) path → (length path ≡ 0 → ⊥) →
     Looking r plens paths tlens trees whole (look (components path) (pathOf plens paths slot) (viewOf 20 r plens paths tlens trees)) path path slot
 look-begin r plens paths tlens trees whole path slot u e n =
     record {
@@ -131,7 +131,7 @@ next-same : (ds : List ℕ) (ps : List Bytes) {t u : Tree} {q q′ n n′ : Byte
 next-same ds ps {t} {u} {q} {q′} {n} {n′} b y et eq en h =
     subst (λ (z : Tree). NextIs ds ps z q′ n′ b y) et (subst (λ (z : Bytes). NextIs ds ps t z n′ b y) eq (subst (λ (z : Bytes). NextIs ds ps t q z b y) en h))
 
-module _ {r : Editor} {plens paths tlens trees : List ℕ} {whole : Bytes} {goal : model.Looked} {path p : Bytes} {slot : ℕ} (s : Looking r plens paths tlens trees whole goal path p slot)
+module _ {r : Record} {plens paths tlens trees : List ℕ} {whole : Bytes} {goal : model.Looked} {path p : Bytes} {slot : ℕ} (s : Looking r plens paths tlens trees whole goal path p slot)
     (L : Laid 20 r plens paths tlens trees) (cl : r .hidden ≡ r .free) {k : ℕ} (e : k ≡ length (firstPiece p)) {b : Bool} (eb : b ≡ eqb k (length p)) where
   abbrev q : Bytes
   q = pathOf plens paths slot

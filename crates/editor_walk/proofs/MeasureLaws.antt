@@ -25,7 +25,7 @@ use Rattle.names_compact.specs.Compact.{unpack}
 use Rattle.store_runs.proofs.FindLaws.{cut-at}
 use Rattle.store_runs.specs.Runs.{cut, runOf}
 use Rattle.store_runs.proofs.Laws.{length-cut}
-use Rattle.store_slots.specs.declared.Editor.{Editor}
+use Rattle.store_slots.specs.declared.Record.{Record}
 use Rattle.store_slots.specs.View.{slotsOf, gather, viewOf, Laid, Used, pathOf, treeOf}
 use Rattle.store_slots.proofs.Relaid.{find-slot}
 use Rattle.store_slots.proofs.Calls.{searched-run}
@@ -179,8 +179,8 @@ land-is T e i ds ps raws q u tlens trees ld lt (Halt code) l =
     landing-new sha1 T e q u i (find at q (gather (slotsOf 20 ds ps (cut tlens trees)))) (stops (codeNumber code)) (f .0) (l .1)
 
 -- the turn at a component
-module _ (T : Table) (e : walk.Edit) (q : Bytes) (o : Option Held) (n : Bytes) (u : Counts) (s : Seen) (deep : Bool) (next : Next) where
-  sight-past : (r : Turn) (b : Bool) → within u ≡ true → within (countsAfter r s n u) ≡ false → onSight sha1 T e deep q o next (sightAs r b s n u) .kept ≡ false
+module _ (T : Table) (e : walk.Edit) (q : Bytes) (o : Option Held) (n : Bytes) (u : Counts) (s : Seen) (opening : Bool) (next : Next) where
+  sight-past : (r : Turn) (b : Bool) → within u ≡ true → within (countsAfter r s n u) ≡ false → onSight sha1 T e opening q o next (sightAs r b s n u) .kept ≡ false
   unfolding onSight
   sight-past (Stop code) b w h = no-way (sym w ∙ h)
   sight-past Cut b w h = counted-past (countsAfter Cut s n u) _ h
@@ -188,7 +188,7 @@ module _ (T : Table) (e : walk.Edit) (q : Bytes) (o : Option Held) (n : Bytes) (
   sight-past (Put k i) false w h = counted-past (countsAfter (Put k i) s n u) _ h
   sight-past (Down i) b w h = no-way (sym w ∙ h)
 
-  sight-stop : (r : Turn) (b : Bool) (t : Tree) → within (countsAfter r s n u) ≡ true → goesOn deep (turnAs r b n t) ≡ false → onSight sha1 T e deep q o next (sightAs r b s n u) .kept ≡ true
+  sight-stop : (r : Turn) (b : Bool) (t : Tree) → within (countsAfter r s n u) ≡ true → goesOn opening (turnAs r b n t) ≡ false → onSight sha1 T e opening q o next (sightAs r b s n u) .kept ≡ true
   unfolding onSight over
   sight-stop (Stop code) b t w h = refl
   sight-stop Cut b t w h =
@@ -198,8 +198,8 @@ module _ (T : Table) (e : walk.Edit) (q : Bytes) (o : Option Held) (n : Bytes) (
   sight-stop (Put k i) false t w h = no-way h
   sight-stop (Down i) b t w h = no-way h
 
-  sight-on : (r : Turn) (b : Bool) (t : Tree) → within (countsAfter r s n u) ≡ true → goesOn deep (turnAs r b n t) ≡ true →
-      onSight sha1 T e deep q o next (sightAs r b s n u) .kept ≡ onLanding next (countsAfter r s n u) (landing sha1 T e q (countsAfter r s n u) (wantedBy r) o) .kept
+  sight-on : (r : Turn) (b : Bool) (t : Tree) → within (countsAfter r s n u) ≡ true → goesOn opening (turnAs r b n t) ≡ true →
+      onSight sha1 T e opening q o next (sightAs r b s n u) .kept ≡ onLanding next (countsAfter r s n u) (landing sha1 T e q (countsAfter r s n u) (wantedBy r) o) .kept
   unfolding onSight
   sight-on (Stop code) b t w h = no-way (sym h)
   sight-on Cut b t w h =
@@ -210,40 +210,40 @@ module _ (T : Table) (e : walk.Edit) (q : Bytes) (o : Option Held) (n : Bytes) (
   sight-on (Down i) b t w h = counted-on (countsAfter (Down i) s n u) _ w
 
 -- one step
-pub step-empty : (T : Table) (e : walk.Edit) (deep b : Bool) (q n : Bytes) (t : Tree) (c : Cache) (u : Counts) {tlens trees : List ℕ} {raws : Bytes} {g : Gauge} → length n ≡ 0 → EndsAs true g →
-    GaugeIs tlens trees raws (stepAs T e deep b q n t c u) g
-step-empty T e deep b q [] t c u z k = ends-stop k (λ next. over-kept 1)
-step-empty T e deep b q (x ∷ n) t c u z k = absurd (omega (arith, z))
+pub step-empty : (T : Table) (e : walk.Edit) (opening b : Bool) (q n : Bytes) (t : Tree) (c : Cache) (u : Counts) {tlens trees : List ℕ} {raws : Bytes} {g : Gauge} → length n ≡ 0 → EndsAs true g →
+    GaugeIs tlens trees raws (stepAs T e opening b q n t c u) g
+step-empty T e opening b q [] t c u z k = ends-stop k (λ next. over-kept 1)
+step-empty T e opening b q (x ∷ n) t c u z k = absurd (omega (arith, z))
 
 pub nil-length : (n : Bytes) → (length n ≡ 0 → ⊥) → isNil n ≡ false
 nil-length [] h = absurd (h refl)
 nil-length (x ∷ n) h = refl
 
-module _ (T : Table) (edit : Edit) (deep b : Bool) (q n : Bytes) (c : Cache) (u : Counts) (s : Seen) (r : Turn) (ti : TurnIs edit b s r) (t : Tree) (es : seenAs s ≡ partsOf (entryOf n t))
+module _ (T : Table) (edit : Edit) (opening b : Bool) (q n : Bytes) (c : Cache) (u : Counts) (s : Seen) (r : Turn) (ti : TurnIs edit b s r) (t : Tree) (es : seenAs s ≡ partsOf (entryOf n t))
     (bytes : length n ≡ 0 → ⊥) (v : Counts) (ev : v ≡ countsAfter r s n u) where
-  at-sight : (next : Next) → stepAs T (asEdit edit) deep b q n t c u next ≡ onSight sha1 T (asEdit edit) deep q (find at q c) next (sightAs r b s n u)
+  at-sight : (next : Next) → stepAs T (asEdit edit) opening b q n t c u next ≡ onSight sha1 T (asEdit edit) opening q (find at q c) next (sightAs r b s n u)
   at-sight next =
-      ap (λ (z : Bool). pickMeasured z (over 1) (onSight sha1 T (asEdit edit) deep q (find at q c) next (seen b (asEdit edit) n u (entryOf n t)))) (nil-length n bytes)
-      ∙ ap (onSight sha1 T (asEdit edit) deep q (find at q c) next) (ti .counts n u (entryOf n t) es)
+      ap (λ (z : Bool). pickMeasured z (over 1) (onSight sha1 T (asEdit edit) opening q (find at q c) next (seen b (asEdit edit) n u (entryOf n t)))) (nil-length n bytes)
+      ∙ ap (onSight sha1 T (asEdit edit) opening q (find at q c) next) (ti .counts n u (entryOf n t) es)
 
-  sight-kept : (next : Next) (x : Bool) → onSight sha1 T (asEdit edit) deep q (find at q c) next (sightAs r b s n u) .kept ≡ x → stepAs T (asEdit edit) deep b q n t c u next .kept ≡ x
+  sight-kept : (next : Next) (x : Bool) → onSight sha1 T (asEdit edit) opening q (find at q c) next (sightAs r b s n u) .kept ≡ x → stepAs T (asEdit edit) opening b q n t c u next .kept ≡ x
   sight-kept next x h = ap (λ (z : Measured). z .kept) (at-sight next) ∙ h
 
   module _ {tlens trees : List ℕ} {raws : Bytes} {g : Gauge} where
-    pub step-past : within u ≡ true → within v ≡ false → EndsAs false g → GaugeIs tlens trees raws (stepAs T (asEdit edit) deep b q n t c u) g
-    step-past w h e = ends-past e (λ next. sight-kept next false (sight-past T (asEdit edit) q (find at q c) n u s deep next r b w (ap within (sym ev) ∙ h)))
+    pub step-past : within u ≡ true → within v ≡ false → EndsAs false g → GaugeIs tlens trees raws (stepAs T (asEdit edit) opening b q n t c u) g
+    step-past w h e = ends-past e (λ next. sight-kept next false (sight-past T (asEdit edit) q (find at q c) n u s opening next r b w (ap within (sym ev) ∙ h)))
 
-    pub step-stop : within v ≡ true → goesOn deep (turnAs r b n t) ≡ false → EndsAs true g → GaugeIs tlens trees raws (stepAs T (asEdit edit) deep b q n t c u) g
-    step-stop w h e = ends-stop e (λ next. sight-kept next true (sight-stop T (asEdit edit) q (find at q c) n u s deep next r b t (ap within (sym ev) ∙ w) h))
+    pub step-stop : within v ≡ true → goesOn opening (turnAs r b n t) ≡ false → EndsAs true g → GaugeIs tlens trees raws (stepAs T (asEdit edit) opening b q n t c u) g
+    step-stop w h e = ends-stop e (λ next. sight-kept next true (sight-stop T (asEdit edit) q (find at q c) n u s opening next r b t (ap within (sym ev) ∙ w) h))
 
-    pub step-on : within v ≡ true → goesOn deep (turnAs r b n t) ≡ true → GaugeIs tlens trees raws (downAs T (asEdit edit) q (wantedBy r) c v) g → GaugeIs tlens trees raws (stepAs T (asEdit edit) deep b q n t c u) g
+    pub step-on : within v ≡ true → goesOn opening (turnAs r b n t) ≡ true → GaugeIs tlens trees raws (downAs T (asEdit edit) q (wantedBy r) c v) g → GaugeIs tlens trees raws (stepAs T (asEdit edit) opening b q n t c u) g
     step-on w h k =
         gauge-same (λ next.
         sight-kept next (downAs T (asEdit edit) q (wantedBy r) c v next .kept)
-        (sight-on T (asEdit edit) q (find at q c) n u s deep next r b t (ap within (sym ev) ∙ w) h ∙ ap (λ (z : Counts). downAs T (asEdit edit) q (wantedBy r) c z next .kept) (sym ev))) k
+        (sight-on T (asEdit edit) q (find at q c) n u s opening next r b t (ap within (sym ev) ∙ w) h ∙ ap (λ (z : Counts). downAs T (asEdit edit) q (wantedBy r) c z next .kept) (sym ev))) k
 
 -- the trees of a store that is laid out
-pub stored : {r : Editor} {plens paths tlens trees : List ℕ} → Laid 20 r plens paths tlens trees → Stored (r .trees) tlens trees
+pub stored : {r : Record} {plens paths tlens trees : List ℕ} → Laid 20 r plens paths tlens trees → Stored (r .trees) tlens trees
 stored {r} {plens} {paths} {tlens} {trees} L =
     record {
       sound = L .trees-sound;
@@ -259,22 +259,22 @@ pub stands-as : (tlens trees : List ℕ) (raws : Bytes) (t : Tree) {l m : Level}
 stands-as tlens trees raws t e h = subst (λ (z : Level). Stands tlens trees raws z t) e h
 
 -- the loop
-pub record Measuring (T : Table) (e : walk.Edit) (deep : Bool) (c : Cache) (tlens trees : List ℕ) (raws whole : Bytes) (goal : Bool) (p : Bytes) (level : Level) (u : Counts) : Type 0 where
+pub record Measuring (T : Table) (e : walk.Edit) (opening : Bool) (c : Cache) (tlens trees : List ℕ) (raws whole : Bytes) (goal : Bool) (p : Bytes) (level : Level) (u : Counts) : Type 0 where
   pub tree : Tree
   pub stands : Stands tlens trees raws level tree
   pub room : within u ≡ true
   pub so-far : Bytes
   pub front : Front whole so-far p
-  pub rest : goal ≡ measured sha1 T e deep (pieces p) so-far tree c u .kept
+  pub rest : goal ≡ measured sha1 T e opening (pieces p) so-far tree c u .kept
 
-pub measure-empty : (T : Table) (e : walk.Edit) (deep : Bool) (q path : Bytes) (c : Cache) → length path ≡ 0 → true ≡ measure sha1 T e deep q path c .kept
-measure-empty T e deep q [] c z = sym (over-kept 0)
-measure-empty T e deep q (b ∷ bs) c z = absurd (omega (arith, z))
+pub measure-empty : (T : Table) (e : walk.Edit) (opening : Bool) (q path : Bytes) (c : Cache) → length path ≡ 0 → true ≡ measure sha1 T e opening q path c .kept
+measure-empty T e opening q [] c z = sym (over-kept 0)
+measure-empty T e opening q (b ∷ bs) c z = absurd (omega (arith, z))
 
-pub measure-begin : (T : Table) (e : walk.Edit) (deep : Bool) (r : Editor) (plens paths tlens trees : List ℕ) (raws whole path : Bytes) (slot : ℕ) → Laid 20 r plens paths tlens trees →
+pub measure-begin : (T : Table) (e : walk.Edit) (opening : Bool) (r : Record) (plens paths tlens trees : List ℕ) (raws whole path : Bytes) (slot : ℕ) → Laid 20 r plens paths tlens trees →
     editor.fits (viewOf 20 r plens paths tlens trees) ≡ true → Used r slot → whole ≡ full (pathOf plens paths slot) path → (length path ≡ 0 → ⊥) → (u : Counts) → u ≡ recordCounts r →
-    Measuring T e deep (viewOf 20 r plens paths tlens trees) tlens trees raws whole (measure sha1 T e deep (pathOf plens paths slot) path (viewOf 20 r plens paths tlens trees) .kept) path (Slot slot) u
-measure-begin T e deep r plens paths tlens trees raws whole path slot L f U ew n u eu =
+    Measuring T e opening (viewOf 20 r plens paths tlens trees) tlens trees raws whole (measure sha1 T e opening (pathOf plens paths slot) path (viewOf 20 r plens paths tlens trees) .kept) path (Slot slot) u
+measure-begin T e opening r plens paths tlens trees raws whole path slot L f U ew n u eu =
     record {
       tree = treeOf 20 tlens trees slot;
       stands = (U .low, refl);
@@ -282,40 +282,40 @@ measure-begin T e deep r plens paths tlens trees raws whole path slot L f U ew n
       so-far = pathOf plens paths slot;
       front = subst (λ (z : Bytes). Front z (pathOf plens paths slot) path) (sym ew) (front-begin (pathOf plens paths slot) path n);
       rest =
-          ap (λ (ns : List Bytes). measured sha1 T e deep ns (pathOf plens paths slot) (treeAt (pathOf plens paths slot) view) view (countsOf view) .kept) (components-some path n)
-          ∙ ap₂ (λ (o : Option Held) (v : Counts). measured sha1 T e deep (pieces path) (pathOf plens paths slot) (editor.treeOf o) view v .kept) (find-slot 20 r plens paths tlens trees L slot (U .low) (U .used))
+          ap (λ (ns : List Bytes). measured sha1 T e opening ns (pathOf plens paths slot) (treeAt (pathOf plens paths slot) view) view (countsOf view) .kept) (components-some path n)
+          ∙ ap₂ (λ (o : Option Held) (v : Counts). measured sha1 T e opening (pieces path) (pathOf plens paths slot) (editor.treeOf o) view v .kept) (find-slot 20 r plens paths tlens trees L slot (U .low) (U .used))
           (sym (eu ∙ counts-view r plens paths tlens trees L));
     }
   where
     view : Cache
     view = viewOf 20 r plens paths tlens trees
 
-stops-here : (T : Table) (e : walk.Edit) (deep b : Bool) (q n : Bytes) (t : Tree) (c : Cache) (u v : Counts) (s : Tree) → ((next : Next) → stepAs T e deep b q n t c u next .kept ≡ next s v .kept) → isNil n ≡ false
-stops-here T e deep b q [] t c u v s h = no-way (sym (over-kept 1) ∙ h (λ (x : Tree) (y : Counts). record { code = 0; kept = false }))
-stops-here T e deep b q (x ∷ n) t c u v s h = refl
+stops-here : (T : Table) (e : walk.Edit) (opening b : Bool) (q n : Bytes) (t : Tree) (c : Cache) (u v : Counts) (s : Tree) → ((next : Next) → stepAs T e opening b q n t c u next .kept ≡ next s v .kept) → isNil n ≡ false
+stops-here T e opening b q [] t c u v s h = no-way (sym (over-kept 1) ∙ h (λ (x : Tree) (y : Counts). record { code = 0; kept = false }))
+stops-here T e opening b q (x ∷ n) t c u v s h = refl
 
-module _ {T : Table} {e : walk.Edit} {deep : Bool} {c : Cache} {tlens trees : List ℕ} {raws whole : Bytes} {goal : Bool} {p : Bytes} {level : Level} {u : Counts}
-    (s : Measuring T e deep c tlens trees raws whole goal p level u) {k : ℕ} (ek : k ≡ length (firstPiece p)) {b : Bool} (eb : b ≡ eqb k (length p))
+module _ {T : Table} {e : walk.Edit} {opening : Bool} {c : Cache} {tlens trees : List ℕ} {raws whole : Bytes} {goal : Bool} {p : Bytes} {level : Level} {u : Counts}
+    (s : Measuring T e opening c tlens trees raws whole goal p level u) {k : ℕ} (ek : k ≡ length (firstPiece p)) {b : Bool} (eb : b ≡ eqb k (length p))
     {end : ℕ} (ee : end ≡ length whole - length p + k) {below name : Bytes} (ew : below ≡ take end whole) (en : name ≡ take k p) {d : Cache} (ed : d ≡ c)
-    {g : Gauge} (gi : GaugeIs tlens trees raws (stepAs T e deep b below name (s .tree) d u) g) where
+    {g : Gauge} (gi : GaugeIs tlens trees raws (stepAs T e opening b below name (s .tree) d u) g) where
   abbrev q : Bytes
   q = join (s .so-far) (take k p)
 
   abbrev rest-of : Next
-  rest-of t v = measured sha1 T e deep (restOf b p k) q t c v
+  rest-of t v = measured sha1 T e opening (restOf b p k) q t c v
 
-  step : goal ≡ stepAs T e deep b q (take k p) (s .tree) c u rest-of .kept
+  step : goal ≡ stepAs T e opening b q (take k p) (s .tree) c u rest-of .kept
   step =
-      s .rest ∙ ap (λ (ns : List Bytes). measured sha1 T e deep ns (s .so-far) (s .tree) c u .kept) (pieces-are p k ek b eb)
-      ∙ ap (λ (z : Bool). pickMeasured (isNil (take k p)) (over 1) (onSight sha1 T e deep q (find at q c) rest-of (seen z e (take k p) u (entryOf (take k p) (s .tree)))) .kept) (rest-nil b p k)
+      s .rest ∙ ap (λ (ns : List Bytes). measured sha1 T e opening ns (s .so-far) (s .tree) c u .kept) (pieces-are p k ek b eb)
+      ∙ ap (λ (z : Bool). pickMeasured (isNil (take k p)) (over 1) (onSight sha1 T e opening q (find at q c) rest-of (seen z e (take k p) u (entryOf (take k p) (s .tree)))) .kept) (rest-nil b p k)
 
-  gauged : GaugeIs tlens trees raws (stepAs T e deep b q (take k p) (s .tree) c u) g
+  gauged : GaugeIs tlens trees raws (stepAs T e opening b q (take k p) (s .tree) c u) g
   gauged =
-      subst (λ (z : Bytes). GaugeIs tlens trees raws (stepAs T e deep b z (take k p) (s .tree) c u) g) (ew ∙ front-here (s .front) k end (piece-short p k ek) ee)
-      (subst (λ (z : Bytes). GaugeIs tlens trees raws (stepAs T e deep b below z (s .tree) c u) g) en (subst (λ (z : Cache). GaugeIs tlens trees raws (stepAs T e deep b below name (s .tree) z u) g) ed gi))
+      subst (λ (z : Bytes). GaugeIs tlens trees raws (stepAs T e opening b z (take k p) (s .tree) c u) g) (ew ∙ front-here (s .front) k end (piece-short p k ek) ee)
+      (subst (λ (z : Bytes). GaugeIs tlens trees raws (stepAs T e opening b below z (s .tree) c u) g) en (subst (λ (z : Cache). GaugeIs tlens trees raws (stepAs T e opening b below name (s .tree) z u) g) ed gi))
 
   last-kept : b ≡ true → (t : Tree) (v : Counts) → rest-of t v .kept ≡ true
-  last-kept h t v = ap (λ (z : Bool). measured sha1 T e deep (restOf z p k) q t c v .kept) h ∙ over-kept 0
+  last-kept h t v = ap (λ (z : Bool). measured sha1 T e opening (restOf z p k) q t c v .kept) h ∙ over-kept 0
 
   pub measure-over : (not (g .kept) || (not (g .going) || b)) ≡ true → g .kept ≡ goal
   measure-over h = go (g .kept) (g .going) refl refl h
@@ -336,17 +336,17 @@ module _ {T : Table} {e : walk.Edit} {deep : Bool} {c : Cache} {tlens trees : Li
     pub measure-shorter : k < length p
     measure-shorter = not-last p k ek eb (parts (g .kept) (g .going) b h .2)
 
-    pub measure-next : {p′ : Bytes} → p′ ≡ drop (k + 1) p → Measuring T e deep c tlens trees raws whole goal p′ (g .level) (countsAs (g .counts))
+    pub measure-next : {p′ : Bytes} → p′ ≡ drop (k + 1) p → Measuring T e opening c tlens trees raws whole goal p′ (g .level) (countsAs (g .counts))
     measure-next {p′} ep =
         let y = parts (g .kept) (g .going) b h in
         let f = gauged .on (y .0) (y .1) in
         let j = measure-shorter in
-        let n = stops-here T e deep b q (take k p) (s .tree) c u (countsAs (g .counts)) (f .0) (f .3) in
-        subst (λ (z : Bytes). Measuring T e deep c tlens trees raws whole goal z (g .level) (countsAs (g .counts))) (sym ep) (record {
+        let n = stops-here T e opening b q (take k p) (s .tree) c u (countsAs (g .counts)) (f .0) (f .3) in
+        subst (λ (z : Bytes). Measuring T e opening c tlens trees raws whole goal z (g .level) (countsAs (g .counts))) (sym ep) (record {
           tree = f .0;
           stands = f .1;
           room = f .2;
           so-far = q;
           front = front-next (s .front) k j (piece-slash p k ek j) n;
-          rest = step ∙ f .3 rest-of ∙ ap (λ (z : Bool). measured sha1 T e deep (restOf z p k) q (f .0) c (countsAs (g .counts)) .kept) (y .2);
+          rest = step ∙ f .3 rest-of ∙ ap (λ (z : Bool). measured sha1 T e opening (restOf z p k) q (f .0) c (countsAs (g .counts)) .kept) (y .2);
         })

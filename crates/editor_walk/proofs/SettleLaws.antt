@@ -22,7 +22,7 @@ use Rattle.model.proofs.Basics.{or-right, not-false}
 use Rattle.model.proofs.LowNumbers.{measured-low}
 use Rattle.model.proofs.MeasureRight.{measure-code, measure-kept}
 use Rattle.model.proofs.LimitLaws.{fits-of}
-use Rattle.store_slots.specs.declared.Editor.{Editor}
+use Rattle.store_slots.specs.declared.Record.{Record}
 use Rattle.store_slots.specs.View.{viewOf, Laid, Used, pathOf}
 use Rattle.store_slots.proofs.Relaid.{find-slot}
 use Rattle.editor_terms.specs.declared.code.Code.the-variants.{NoRoom}
@@ -36,7 +36,7 @@ unfolding refused
 short-path prefix path h =
     leb-true (length (full prefix path)) 1024 (not-false (leb (length (full prefix path)) 1024) (or-right (has 0 path || someLong (components path)) (not (leb (length (full prefix path)) 1024)) h))
 
-module _ (T : Table) (e : Edit) (deep : Bool) (r : Editor) (plens paths tlens trees : List ℕ) (L : Laid 20 r plens paths tlens trees) (cl : r .hidden ≡ r .free) (slot : ℕ) (U : Used r slot) (path : Bytes)
+module _ (T : Table) (e : Edit) (opening : Bool) (r : Record) (plens paths tlens trees : List ℕ) (L : Laid 20 r plens paths tlens trees) (cl : r .hidden ≡ r .free) (slot : ℕ) (U : Used r slot) (path : Bytes)
     (v : valid sha1 (editorAt (viewOf 20 r plens paths tlens trees)) ≡ true) where
   abbrev q : Bytes
   q = pathOf plens paths slot
@@ -45,7 +45,7 @@ module _ (T : Table) (e : Edit) (deep : Bool) (r : Editor) (plens paths tlens tr
   c = viewOf 20 r plens paths tlens trees
 
   abbrev w : Walked
-  w = walk sha1 T e deep (components path) q c
+  w = walk sha1 T e opening (components path) q c
 
   pub view-fits : fits c ≡ true
   view-fits = fits-of sha1 c v
@@ -53,9 +53,9 @@ module _ (T : Table) (e : Edit) (deep : Bool) (r : Editor) (plens paths tlens tr
   there : isSome (find at q c) ≡ true
   there = ap (λ (o : Option Held). isSome o) (find-slot 20 r plens paths tlens trees L slot (U .low) (U .used))
 
-  module _ {b : Bool} (eb : b ≡ measure sha1 T e deep q path c .kept) where
+  module _ {b : Bool} (eb : b ≡ measure sha1 T e opening q path c .kept) where
     pub kept-is : b ≡ w .kept
-    kept-is = eb ∙ measure-kept sha1 T e deep q path c v there
+    kept-is = eb ∙ measure-kept sha1 T e opening q path c v there
 
     pub settle-none : b ≡ false → SettledAs r plens paths tlens trees (settled (editorAt c) w) (record { code = NoRoom; ed = r }) plens paths tlens trees
     unfolding settled refuseIf
@@ -77,6 +77,6 @@ module _ (T : Table) (e : Edit) (deep : Bool) (r : Editor) (plens paths tlens tr
           now = ap editorAt (d .now) ∙ sym (ap (λ (z : Bool). refuseIf (not z) 5 (editorAt c) (record { code = w .code; editor = editorAt (w .now) }) .editor) k);
           stand = d .stand;
           same = λ h.
-              let l = measured-low sha1 T e deep (components path) q (treeAt q c) c (countsOf c) in
-              absurd (omega (arith, l, measure-code sha1 T e deep q path c v there, d .code, h));
+              let l = measured-low sha1 T e opening (components path) q (treeAt q c) c (countsOf c) in
+              absurd (omega (arith, l, measure-code sha1 T e opening q path c v there, d .code, h));
         }

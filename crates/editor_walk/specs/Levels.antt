@@ -79,4 +79,4 @@ abbrev pub downAs : Table → Edit → Bytes → Option Bytes → Cache → Coun
 downAs T e q i c u next = onLanding next u (landing sha1 T e q u i (find at q c))
 
 abbrev pub stepAs : Table → Edit → Bool → Bool → Bytes → Bytes → Tree → Cache → Counts → (Tree → Counts → Measured) → Measured
-stepAs T e deep isLast q n t c u next = pickMeasured (isNil n) (over 1) (onSight sha1 T e deep q (find at q c) next (seen isLast e n u (entryOf n t)))
+stepAs T e opening isLast q n t c u next = pickMeasured (isNil n) (over 1) (onSight sha1 T e opening q (find at q c) next (seen isLast e n u (entryOf n t)))

@@ -21,25 +21,25 @@ use editor_terms::code::Code;
 use editor_terms::edit::Edit;
 use editor_terms::edit::Seen;
 use editor_terms::edit::Turn;
-use store_slots::Editor;
+use store_slots::Record;
 
 // What a step comes to: its number, the record, and whether and in which slot the walk goes on.
 pub struct Walked {
     pub going: bool,
     pub code: Code,
     pub slot: usize,
-    pub ed: Editor,
+    pub ed: Record,
 }
 
 // What a walk answers, and the record then.
 pub struct Answer {
     pub code: Code,
-    pub ed: Editor,
+    pub ed: Record,
 }
 
 // What a turn at a name changes in the tree in a slot.
 fn apply(
-    ed: Editor,
+    ed: Record,
     plens: &[u64],
     paths: &[u8],
     tlens: &mut [u64],
@@ -47,7 +47,7 @@ fn apply(
     name: &[u8],
     slot: usize,
     turn: Turn,
-) -> Editor
+) -> Record
     requires { ⌜ Laid 20 ed (now plens) (now paths) (now tlens) (now trees) × Used ed slot × (goodName (now name) ≡ true)
         × PutFits turn (pathOf (now plens) (now paths) slot) (now name) (treeOf 20 (now tlens) (now trees) slot) (viewOf 20 ed (now plens) (now paths) (now tlens) (now trees)) ⌝ }
     ensures { λ q. ⌜ Edited 20 ed (now (plens .entry)) (now (paths .entry)) (now (tlens .entry)) (now (trees .entry)) slot
@@ -66,7 +66,7 @@ fn apply(
 
 // Goes down to the path below: what is to be cached there is cached.
 fn descend(
-    ed: Editor,
+    ed: Record,
     plens: &mut [u64],
     paths: &mut [u8],
     tlens: &mut [u64],
@@ -134,7 +134,7 @@ fn descend(
 
 // The step down after a turn.
 fn go_down(
-    ed: Editor,
+    ed: Record,
     plens: &mut [u64],
     paths: &mut [u8],
     tlens: &mut [u64],
@@ -175,7 +175,7 @@ fn seen_for(tree: &[u8], name: &[u8], edit: Edit, last: bool) -> Seen
 
 // One step: the edit at the component `name` of the tree in a slot, with the path `below` of the tree below it.
 fn step(
-    ed: Editor,
+    ed: Record,
     plens: &mut [u64],
     paths: &mut [u8],
     tlens: &mut [u64],
@@ -187,13 +187,13 @@ fn step(
     name: &[u8],
     edit: Edit,
     last: bool,
-    deep: bool,
+    opening: bool,
     slot: usize,
 ) -> Walked
     requires { ⌜ Laid 20 ed (now plens) (now paths) (now tlens) (now trees) × (ed .hidden ≡ ed .free) × Used ed slot × (goodTable 20 (tableOf (now ids) (now ends) (now raws)) ≡ true)
         × ((length (now name) ≡ 0 → ⊥) → goodName (now name) ≡ true)
-        × Fitting (stepAs (tableOf (now ids) (now ends) (now raws)) (asEdit edit) «deep» «last» (pathOf (now plens) (now paths) slot) (now below) (now name) (viewOf 20 ed (now plens) (now paths) (now tlens) (now trees))) ⌝ }
-    ensures { λ s. ⌜ SteppedAs ed (stepAs (tableOf (now (ids .entry)) (now (ends .entry)) (now (raws .entry))) (asEdit edit) «deep» «last» (pathOf (now (plens .entry)) (now (paths .entry)) slot) (now (below .entry)) (now (name .entry))
+        × Fitting (stepAs (tableOf (now ids) (now ends) (now raws)) (asEdit edit) opening «last» (pathOf (now plens) (now paths) slot) (now below) (now name) (viewOf 20 ed (now plens) (now paths) (now tlens) (now trees))) ⌝ }
+    ensures { λ s. ⌜ SteppedAs ed (stepAs (tableOf (now (ids .entry)) (now (ends .entry)) (now (raws .entry))) (asEdit edit) opening «last» (pathOf (now (plens .entry)) (now (paths .entry)) slot) (now (below .entry)) (now (name .entry))
         (viewOf 20 ed (now (plens .entry)) (now (paths .entry)) (now (tlens .entry)) (now (trees .entry)))) (now (below .entry)) s (now (plens .exit)) (now (paths .exit)) (now (tlens .exit)) (now (trees .exit)) ⌝ }
 {
     if name.len() == 0 {
@@ -213,7 +213,7 @@ fn step(
     );
     let turn = editor_terms::edit::turn_of(edit, last, seen);
     let e = apply(ed, plens, paths, tlens, trees, name, slot, turn);
-    if !editor_terms::edit::goes_down(turn, last, deep) {
+    if !editor_terms::edit::goes_down(turn, last, opening) {
         let code = editor_terms::edit::end_code(turn);
         return Walked {
             going: false,
@@ -246,7 +246,7 @@ fn is_over(going: bool, last: bool) -> bool
 
 // The walk of an edit whose steps each fit, from the tree in a slot; `full` is that tree's path with the path.
 pub fn walk(
-    ed: Editor,
+    ed: Record,
     plens: &mut [u64],
     paths: &mut [u8],
     tlens: &mut [u64],
@@ -257,13 +257,13 @@ pub fn walk(
     full: &[u8],
     path: &[u8],
     edit: Edit,
-    deep: bool,
+    opening: bool,
     slot: usize,
 ) -> Answer
     requires { ⌜ Laid 20 ed (now plens) (now paths) (now tlens) (now trees) × (ed .hidden ≡ ed .free) × Used ed slot × (goodTable 20 (tableOf (now ids) (now ends) (now raws)) ≡ true)
         × (now full ≡ fullPath (pathOf (now plens) (now paths) slot) (now path)) × (refused (pathOf (now plens) (now paths) slot) (now path) ≡ false)
-        × (walked sha1 (tableOf (now ids) (now ends) (now raws)) (asEdit edit) «deep» (components (now path)) (pathOf (now plens) (now paths) slot) (viewOf 20 ed (now plens) (now paths) (now tlens) (now trees)) .kept ≡ true) ⌝ }
-    ensures { λ a. ⌜ WalkedAs ed (walked sha1 (tableOf (now (ids .entry)) (now (ends .entry)) (now (raws .entry))) (asEdit edit) «deep» (components (now (path .entry))) (pathOf (now (plens .entry)) (now (paths .entry)) slot)
+        × (walked sha1 (tableOf (now ids) (now ends) (now raws)) (asEdit edit) opening (components (now path)) (pathOf (now plens) (now paths) slot) (viewOf 20 ed (now plens) (now paths) (now tlens) (now trees)) .kept ≡ true) ⌝ }
+    ensures { λ a. ⌜ WalkedAs ed (walked sha1 (tableOf (now (ids .entry)) (now (ends .entry)) (now (raws .entry))) (asEdit edit) opening (components (now (path .entry))) (pathOf (now (plens .entry)) (now (paths .entry)) slot)
         (viewOf 20 ed (now (plens .entry)) (now (paths .entry)) (now (tlens .entry)) (now (trees .entry)))) a (now (plens .exit)) (now (paths .exit)) (now (tlens .exit)) (now (trees .exit)) ⌝ }
 {
     if path.len() == 0 {
@@ -294,7 +294,7 @@ pub fn walk(
             name,
             edit,
             last,
-            deep,
+            opening,
             at,
         );
         let code = s.code;
@@ -311,7 +311,7 @@ pub fn walk(
 
 // Both passes: the walk of an edit, if each of its steps keeps the limits; else nothing is changed.
 pub fn settle(
-    ed: Editor,
+    ed: Record,
     plens: &mut [u64],
     paths: &mut [u8],
     tlens: &mut [u64],
@@ -322,7 +322,7 @@ pub fn settle(
     full: &[u8],
     path: &[u8],
     edit: Edit,
-    deep: bool,
+    opening: bool,
     slot: usize,
 ) -> Answer
     requires { ⌜ Laid 20 ed (now plens) (now paths) (now tlens) (now trees) × (ed .hidden ≡ ed .free) × Used ed slot × (goodTable 20 (tableOf (now ids) (now ends) (now raws)) ≡ true)
@@ -330,7 +330,7 @@ pub fn settle(
         × (valid sha1 (editorAt (viewOf 20 ed (now plens) (now paths) (now tlens) (now trees))) ≡ true) ⌝ }
     ensures { λ a. ⌜ SettledAs ed (now (plens .entry)) (now (paths .entry)) (now (tlens .entry)) (now (trees .entry))
         (settled (editorAt (viewOf 20 ed (now (plens .entry)) (now (paths .entry)) (now (tlens .entry)) (now (trees .entry))))
-        (walked sha1 (tableOf (now (ids .entry)) (now (ends .entry)) (now (raws .entry))) (asEdit edit) «deep» (components (now (path .entry))) (pathOf (now (plens .entry)) (now (paths .entry)) slot)
+        (walked sha1 (tableOf (now (ids .entry)) (now (ends .entry)) (now (raws .entry))) (asEdit edit) opening (components (now (path .entry))) (pathOf (now (plens .entry)) (now (paths .entry)) slot)
         (viewOf 20 ed (now (plens .entry)) (now (paths .entry)) (now (tlens .entry)) (now (trees .entry))))) a (now (plens .exit)) (now (paths .exit)) (now (tlens .exit)) (now (trees .exit)) ⌝ }
 {
     let kept = crate::measure::measure(
@@ -345,7 +345,7 @@ pub fn settle(
         full,
         path,
         edit,
-        deep,
+        opening,
         slot,
     );
     if !kept {
@@ -366,7 +366,7 @@ pub fn settle(
         full,
         path,
         edit,
-        deep,
+        opening,
         slot,
     )
 }

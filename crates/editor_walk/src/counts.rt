@@ -10,7 +10,7 @@ ghost use Rattle.editor_terms.specs.Edits.{putCounts, countsAfter};
 ghost use Rattle.editor_walk.specs.Counted.{countsAs, recordCounts};
 use editor_terms::edit::Seen;
 use editor_terms::edit::Turn;
-use store_slots::Editor;
+use store_slots::Record;
 
 // What is used: trees, entries, bytes of names and of paths.
 pub struct Counts {
@@ -21,7 +21,7 @@ pub struct Counts {
 }
 
 // What a record's trees use.
-pub fn counts_of(ed: Editor) -> Counts
+pub fn counts_of(ed: Record) -> Counts
     ensures { λ r. ⌜ countsAs r ≡ recordCounts ed ⌝ }
 {
     let map = ed.free;

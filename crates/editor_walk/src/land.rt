@@ -16,7 +16,7 @@ use editor_terms::id::Id;
 use editor_terms::table::Object;
 use names::tree::Checked;
 use store_runs::runs::Found;
-use store_slots::Editor;
+use store_slots::Record;
 
 // A raw tree of the table: where it is, how many entries and name bytes it has.
 pub struct Raw {
@@ -81,7 +81,7 @@ fn land_new(ids: &[u8], ends: &[u32], raws: &[u8], wanted: Wanted, leaf: bool) -
 
 // What going down to the path `below` finds.
 pub fn land(
-    ed: Editor,
+    ed: Record,
     plens: &[u64],
     paths: &[u8],
     ids: &[u8],

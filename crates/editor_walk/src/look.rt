@@ -16,7 +16,7 @@ use editor_terms::edit::Seen;
 use editor_terms::id::Id;
 use names::mode::EntryKind;
 use store_runs::runs::Found;
-use store_slots::Editor;
+use store_slots::Record;
 
 // What a lookup answers: an entry's kind and id, or that there is none, or a refusal.
 pub enum Looked {
@@ -33,7 +33,7 @@ pub enum Next {
 
 // A lookup at one component of the path, `name`; `below` is the path of the tree below it.
 fn look_in(
-    ed: Editor,
+    ed: Record,
     plens: &[u64],
     paths: &[u8],
     tree: &[u8],
@@ -63,7 +63,7 @@ fn look_in(
 
 // The entry at a path below the tree in a slot; `full` is that tree's path with the path. A path of no bytes has none.
 pub fn look(
-    ed: Editor,
+    ed: Record,
     plens: &[u64],
     paths: &[u8],
     tlens: &[u64],

@@ -22,7 +22,7 @@ use crate::land::Landing;
 use editor_terms::edit::Edit;
 use editor_terms::edit::Seen;
 use editor_terms::edit::Turn;
-use store_slots::Editor;
+use store_slots::Record;
 
 // The tree that the walk would be at: cached in a slot, a raw tree of the table, or an empty one.
 pub enum Level {
@@ -111,7 +111,7 @@ fn landed(landing: Landing, n: usize, u: Counts) -> Gauge
 
 // The step down after a turn, to the path `below`.
 fn go_down(
-    ed: Editor,
+    ed: Record,
     plens: &[u64],
     paths: &[u8],
     ids: &[u8],
@@ -135,7 +135,7 @@ fn go_down(
 
 // One step: the edit at the component `name`, with the path `below` of the tree below it.
 fn step(
-    ed: Editor,
+    ed: Record,
     plens: &[u64],
     paths: &[u8],
     tlens: &[u64],
@@ -147,7 +147,7 @@ fn step(
     name: &[u8],
     edit: Edit,
     last: bool,
-    deep: bool,
+    opening: bool,
     level: Level,
     u: Counts,
 ) -> Gauge
@@ -155,7 +155,7 @@ fn step(
         × (goodTable 20 (tableOf (now ids) (now ends) (now raws)) ≡ true) × ((t : Tree) × Stands (now tlens) (now trees) (now raws) level t)
         × (has 47 (now name) ≡ false) × (length (now below) ≤ 1280) × (length (now name) ≤ 1280) × (withinLimits (countsAs u) ≡ true) ⌝ }
     ensures { λ g. ⌜ ((t : Tree) → Stands (now (tlens .entry)) (now (trees .entry)) (now (raws .entry)) level t → GaugeIs (now (tlens .entry)) (now (trees .entry)) (now (raws .entry))
-        (stepAs (tableOf (now (ids .entry)) (now (ends .entry)) (now (raws .entry))) (asEdit edit) «deep» «last» (now (below .entry)) (now (name .entry)) t
+        (stepAs (tableOf (now (ids .entry)) (now (ends .entry)) (now (raws .entry))) (asEdit edit) opening «last» (now (below .entry)) (now (name .entry)) t
         (cachedOf 20 ed (now (plens .entry)) (now (paths .entry)) (now (tlens .entry)) (now (trees .entry))) (countsAs u)) g) ⌝ }
 {
     let n = name.len();
@@ -169,7 +169,7 @@ fn step(
     if !crate::counts::within(v) {
         return ended(false, v);
     }
-    if !editor_terms::edit::goes_down(turn, last, deep) {
+    if !editor_terms::edit::goes_down(turn, last, opening) {
         return ended(true, v);
     }
     go_down(ed, plens, paths, ids, ends, raws, below, turn, edit, v)
@@ -190,7 +190,7 @@ fn is_over(kept: bool, going: bool, last: bool) -> bool
 
 // Whether each step of an edit keeps the limits, from the tree in a slot; `full` is that tree's path with the path.
 pub fn measure(
-    ed: Editor,
+    ed: Record,
     plens: &[u64],
     paths: &[u8],
     tlens: &[u64],
@@ -201,12 +201,12 @@ pub fn measure(
     full: &[u8],
     path: &[u8],
     edit: Edit,
-    deep: bool,
+    opening: bool,
     slot: usize,
 ) -> bool
     requires { ⌜ Laid 20 ed (now plens) (now paths) (now tlens) (now trees) × (ed .hidden ≡ ed .free) × (fits (viewOf 20 ed (now plens) (now paths) (now tlens) (now trees)) ≡ true)
         × (goodTable 20 (tableOf (now ids) (now ends) (now raws)) ≡ true) × Used ed slot × (now full ≡ fullPath (pathOf (now plens) (now paths) slot) (now path)) × (length (now full) ≤ 1280) ⌝ }
-    ensures { λ r. ⌜ r ≡ measured sha1 (tableOf (now (ids .entry)) (now (ends .entry)) (now (raws .entry))) (asEdit edit) «deep» (pathOf (now (plens .entry)) (now (paths .entry)) slot) (now (path .entry))
+    ensures { λ r. ⌜ r ≡ measured sha1 (tableOf (now (ids .entry)) (now (ends .entry)) (now (raws .entry))) (asEdit edit) opening (pathOf (now (plens .entry)) (now (paths .entry)) slot) (now (path .entry))
         (viewOf 20 ed (now (plens .entry)) (now (paths .entry)) (now (tlens .entry)) (now (trees .entry))) .kept ⌝ }
 {
     if path.len() == 0 {
@@ -234,7 +234,7 @@ pub fn measure(
             name,
             edit,
             last,
-            deep,
+            opening,
             level,
             u,
         );

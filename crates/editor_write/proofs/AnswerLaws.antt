@@ -19,7 +19,7 @@ use Rattle.model.proofs.Basics.{no-way, and-right}
 use Rattle.model.proofs.Theorems.{answer-valid}
 use Rattle.model.proofs.WriteKeeps.{Fair, FairAsk, asking-fair, valid-ask, taken-parent, link-fair}
 use Rattle.store_slots.specs.View.{viewOf, heldAt, startOf, writeOf, Laid, Ordered}
-use Rattle.store_slots.specs.declared.Editor.{Editor}
+use Rattle.store_slots.specs.declared.Record.{Record}
 use Rattle.store_taken.specs.Taken.{goingOf, writingOf, Between}
 use Rattle.store_taken.proofs.Steps.{asked-in-hand}
 use Rattle.store_check.proofs.StoredLaws.{sha1-width}
@@ -163,14 +163,14 @@ module _ (s : Lent) (h : HoldsExactly s) (n : s .ed .«open» ≡ 0 → ⊥) whe
           link-fair sha1 (startPath began) i (before .cache) (record { start = fromRoot; stacked = before .stack; aside = before .kept; asked = asked }) (li ∙ sym sha1-width) some-kept fair
 
       -- the tree is dropped, and its entry has the id
-      module _ (one : Editor) (plens paths tlens trees : List ℕ) (e : goingOf 20 one plens paths tlens trees (s .order) ≡ after) where
+      module _ (one : Record) (plens paths tlens trees : List ℕ) (e : goingOf 20 one plens paths tlens trees (s .order) ≡ after) where
         abbrev g : Going
         g = goingOf 20 one plens paths tlens trees (s .order)
 
         pub linked-steady : (m : ℕ) × Steady (null 20) m g
         linked-steady = subst (λ (x : Going). (m : ℕ) × Steady (null 20) m x) (sym e) (subst (λ (w : ℕ). (m : ℕ) × Steady (null w) m after) sha1-width (steady-fair sha1 (startPath began) after fair-after))
 
-        module _ (two : Editor) (hand : ℕ) (q : Lent) where
+        module _ (two : Record) (hand : ℕ) (q : Lent) where
           abbrev G : Going
           G = goingOf 20 two (q .plens) (q .paths) (q .tlens) (q .trees) (q .order)
 

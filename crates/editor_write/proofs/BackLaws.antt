@@ -9,7 +9,7 @@ use Rattle.model.specs.Calls.{Answer}
 use Rattle.model.specs.Editor.{Editor as Model}
 use Rattle.model.specs.Formats.{sha1}
 use Rattle.store_slots.specs.View.{editorOf, Holds}
-use Rattle.store_slots.specs.declared.Editor.{Editor}
+use Rattle.store_slots.specs.declared.Record.{Record}
 use Rattle.editor.specs.Lent.{Lent, lent, Good, viewed, Behind, Does}
 use Rattle.editor.proofs.LookLaws.{trees-long}
 use Rattle.editor.proofs.RootLaws.{back-view, back-good, back-behind}
@@ -27,7 +27,7 @@ refuses f s n g u e =
 pub made-answers : (f : Model → Answer) (s q : Lent) → Made f s q → Answers f s 0 q
 made-answers f s q m = record { holds = m .holds; is = m .is; kept = λ h. absurd (omega (arith, h)); usual = λ z. omega (arith, z) }
 
-module _ (s : Lent) (g : Good s) (q : Editor) (p₁ p₂ p₃ p₄ p₅ : List ℕ) (k₁ : length p₁ ≡ length (take 64 (s .plens))) (k₂ : length p₂ ≡ length (take 8192 (s .paths))) (k₃ : length p₃ ≡ length (take 64 (s .tlens)))
+module _ (s : Lent) (g : Good s) (q : Record) (p₁ p₂ p₃ p₄ p₅ : List ℕ) (k₁ : length p₁ ≡ length (take 64 (s .plens))) (k₂ : length p₂ ≡ length (take 8192 (s .paths))) (k₃ : length p₃ ≡ length (take 64 (s .tlens)))
     (k₄ : length p₄ ≡ length (take 38912 (s .trees))) (k₅ : length p₅ ≡ length (take 64 (s .order))) where
   l₁ : length p₁ ≡ 64
   l₁ = k₁ ∙ length-take-le 64 (s .plens) (g .plens-room)

@@ -27,7 +27,7 @@ use Rattle.store_runs.proofs.DigitLaws.{length-digits}
 use Rattle.store_runs.proofs.Laws.{length-cut}
 use Rattle.store_slots.specs.View.{slotsOf, gather, heldAt, pathOf, cachedOf, asideOf, stackedOf, startOf, marked, SlotIs, Laid, Closed, Ordered}
 use Rattle.store_slots.specs.View.{writeOf as writingAt}
-use Rattle.store_slots.specs.declared.Editor.{Editor}
+use Rattle.store_slots.specs.declared.Record.{Record}
 use Rattle.store_slots.proofs.Relaid.{find-slot}
 use Rattle.store_taken.specs.Taken.{goingOf, stackedOn, takenOff, writingOf, Marks, Between, Cached}
 use Rattle.store_taken.proofs.Steps.{laid-same}
@@ -56,10 +56,10 @@ asks-as sp n h g a e f =
 
 -- ---- an open write with no tree taken
 
-abbrev pub opened : Editor → ℕ → Editor
+abbrev pub opened : Record → ℕ → Record
 opened r n = record { free = r .free; hidden = r .hidden; paths = r .paths; trees = r .trees; entries = r .entries; names = r .names; «open» = n; aside = r .aside; stacked = r .stacked; asked = r .asked }
 
-module _ (r : Editor) (order : List ℕ) (o : Ordered r order) (z : r .«open» ≡ 0) where
+module _ (r : Record) (order : List ℕ) (o : Ordered r order) (z : r .«open» ≡ 0) where
   k : Closed r
   k = o .closed z
 
@@ -177,7 +177,7 @@ module _ (s : Lent) (h : HoldsExactly s) (z : s .ed .«open» ≡ 0) (slot : ℕ
   fair : Fair sha1 p (start ∷ []) [] (del at p c)
   fair = begin-fair sha1 p c start found (valid-shut sha1 c (ap (valid sha1) (sym idle) ∙ valid-20 s h))
 
-  module _ (from : ℕ) (one : Editor) (order : List ℕ)
+  module _ (from : ℕ) (one : Record) (order : List ℕ)
       (e : goingOf 20 one (s .plens) (s .paths) (s .tlens) (s .trees) order ≡ stackedOn start (takenOff start (goingOf 20 (opened (s .ed) from) (s .plens) (s .paths) (s .tlens) (s .trees) (s .order)))) where
     abbrev g : Going
     g = goingOf 20 one (s .plens) (s .paths) (s .tlens) (s .trees) order
@@ -188,7 +188,7 @@ module _ (s : Lent) (h : HoldsExactly s) (z : s .ed .«open» ≡ 0) (slot : ℕ
     pub first-steady : (n : ℕ) × Steady (null 20) n g
     first-steady = subst (λ (x : Going). (n : ℕ) × Steady (null 20) n x) (sym stacks) (subst (λ (w : ℕ). (n : ℕ) × Steady (null w) n first) sha1-width (steady-fair sha1 p first fair))
 
-    module _ (t : Starts from p) (two : Editor) (hand : ℕ) (q : Lent) where
+    module _ (t : Starts from p) (two : Record) (hand : ℕ) (q : Lent) where
       abbrev G : Going
       G = goingOf 20 two (q .plens) (q .paths) (q .tlens) (q .trees) (q .order)
 

@@ -15,7 +15,7 @@ use Rattle.model.specs.Valid.{valid}
 use Rattle.model.specs.Write.{bottom, failed}
 use Rattle.model.proofs.Theorems.{fail-valid}
 use Rattle.store_slots.specs.View.{writeOf, editorOf, heldIn, heldAt, cachedOf, asideOf, Laid, Ordered, Holds}
-use Rattle.store_slots.specs.declared.Editor.{Editor}
+use Rattle.store_slots.specs.declared.Record.{Record}
 use Rattle.store_taken.specs.Taken.{SameTree}
 use Rattle.store_check.proofs.StoredLaws.{sha1-width, sha1-room}
 use Rattle.editor.specs.Lent.{Lent, Good, viewed, Behind, Does}
@@ -23,7 +23,7 @@ use Rattle.editor_write.specs.Steps.{exactly, HoldsExactly, Made}
 use Rattle.editor_write.proofs.BackLaws.{refuses}
 
 -- the layout, the write's rules and a valid editor make a store that holds
-holds-of : (F : Format) (w : ℕ) → F .width ≡ w → (q : Editor) (plens paths tlens trees order : List ℕ) (E : Model) → Laid w q plens paths tlens trees → Ordered q order → editorOf w q plens paths tlens trees order ≡ E → valid F E ≡ true → Holds F q plens paths tlens trees order
+holds-of : (F : Format) (w : ℕ) → F .width ≡ w → (q : Record) (plens paths tlens trees order : List ℕ) (E : Model) → Laid w q plens paths tlens trees → Ordered q order → editorOf w q plens paths tlens trees order ≡ E → valid F E ≡ true → Holds F q plens paths tlens trees order
 holds-of F w f q plens paths tlens trees order E L o e v = record {
   laid = subst (λ (x : ℕ). Laid x q plens paths tlens trees) (sym f) L;
   ordered = o;
@@ -55,7 +55,7 @@ unfolding failed
 failed-shut zero c h us ss e = refl
 failed-shut (suc n) c h us ss e = absurd (omega (arith, e))
 
-module _ (s q : Lent) (one : Editor) (start : ℕ) (h : HoldsExactly s) (n : s .ed .«open» ≡ 0 → ⊥) where
+module _ (s q : Lent) (one : Record) (start : ℕ) (h : HoldsExactly s) (n : s .ed .«open» ≡ 0 → ⊥) where
   pub fails :
       heldAt 20 (s .plens) (s .paths) (s .tlens) (s .trees) start ≡ bottom (heldAt 20 (s .plens) (s .paths) (s .tlens) (s .trees) (s .ed .asked)) (asideOf 20 (s .ed) (s .plens) (s .paths) (s .tlens) (s .trees) (s .order)) →
       cachedOf 20 one (q .plens) (q .paths) (q .tlens) (q .trees) ≡ cachedOf 20 (s .ed) (s .plens) (s .paths) (s .tlens) (s .trees) →

@@ -13,16 +13,16 @@ ghost use Rattle.editor_write.specs.Steps.{HoldsExactly, Made};
 use editor::root::Answer;
 use editor_terms::code::Code;
 use editor_terms::id::Id;
-use store_slots::Editor;
+use store_slots::Record;
 
 // The start tree was requested: the write is over. From the root it alone stays cached; from a cursor it goes back to the others.
 fn close(
-    ed: Editor,
+    ed: Record,
     plens: &mut [u64],
     paths: &mut [u8],
     tlens: &mut [u64],
     trees: &mut [u8],
-) -> Editor
+) -> Record
     requires { ⌜ ((order : List ℕ) × HoldsExactly (lent ed (now plens) (now paths) (now tlens) (now trees) order)) × (ed .«open» ≡ 0 → ⊥) × (ed .aside ≡ 0) ⌝ }
     ensures { λ q. ⌜ ((order : List ℕ) (id : Bytes) → HoldsExactly (lent ed (now (plens .entry)) (now (paths .entry)) (now (tlens .entry)) (now (trees .entry)) order) → length id ≡ 20
         → Made (answered sha1 id) (lent ed (now (plens .entry)) (now (paths .entry)) (now (tlens .entry)) (now (trees .entry)) order) (lent q (now (plens .exit)) (now (paths .exit)) (now (tlens .exit)) (now (trees .exit)) order)) ⌝ }
@@ -36,14 +36,14 @@ fn close(
 
 // Another tree was requested: its entry in its parent has the id now, and the write goes on to the next request.
 fn go_on(
-    ed: Editor,
+    ed: Record,
     plens: &mut [u64],
     paths: &mut [u8],
     tlens: &mut [u64],
     trees: &mut [u8],
     order: &mut [u64],
     id: Id,
-) -> Editor
+) -> Record
     requires { ⌜ HoldsExactly (lent ed (now plens) (now paths) (now tlens) (now trees) (now order)) × (ed .«open» ≡ 0 → ⊥) × (ed .aside ≡ 0 → ⊥) ⌝ }
     ensures { λ q. ⌜ Made (answered sha1 (idBytes id)) (lent ed (now (plens .entry)) (now (paths .entry)) (now (tlens .entry)) (now (trees .entry)) (now (order .entry)))
         (lent q (now (plens .exit)) (now (paths .exit)) (now (tlens .exit)) (now (trees .exit)) (now (order .exit))) ⌝ }
@@ -58,14 +58,14 @@ fn go_on(
 
 // An answer over slices that hold an editor with an open write.
 fn answer_held(
-    ed: Editor,
+    ed: Record,
     plens: &mut [u64],
     paths: &mut [u8],
     tlens: &mut [u64],
     trees: &mut [u8],
     order: &mut [u64],
     id: Id,
-) -> Editor
+) -> Record
     requires { ⌜ HoldsExactly (lent ed (now plens) (now paths) (now tlens) (now trees) (now order)) × (ed .«open» ≡ 0 → ⊥) ⌝ }
     ensures { λ q. ⌜ Made (answered sha1 (idBytes id)) (lent ed (now (plens .entry)) (now (paths .entry)) (now (tlens .entry)) (now (trees .entry)) (now (order .entry)))
         (lent q (now (plens .exit)) (now (paths .exit)) (now (tlens .exit)) (now (trees .exit)) (now (order .exit))) ⌝ }
@@ -78,7 +78,7 @@ fn answer_held(
 
 // An answer over a store that holds an editor: 10 where no write is open, else it is made in the fronts of the slices.
 pub(crate) fn answer_accepted(
-    ed: Editor,
+    ed: Record,
     plens: &mut [u64],
     paths: &mut [u8],
     tlens: &mut [u64],
@@ -113,7 +113,7 @@ pub(crate) fn answer_accepted(
 
 // Answers the open request with the id of the tree that was requested.
 pub fn answer(
-    ed: Editor,
+    ed: Record,
     plens: &mut [u64],
     paths: &mut [u8],
     tlens: &mut [u64],

@@ -13,11 +13,11 @@ use editor::cursor::Cursor;
 use editor::root::Answer;
 use editor_terms::code::Code;
 use store_runs::runs::Found;
-use store_slots::Editor;
+use store_slots::Record;
 
 // Begins a write at the cached tree in a slot, over slices that hold an editor with none open. `from` is 1 where it is the root's and 2 where it is a cursor's.
 fn begin_slot(
-    ed: Editor,
+    ed: Record,
     plens: &mut [u64],
     paths: &mut [u8],
     tlens: &mut [u64],
@@ -25,12 +25,12 @@ fn begin_slot(
     order: &mut [u64],
     slot: usize,
     from: u64,
-) -> Editor
+) -> Record
     requires { ⌜ HoldsExactly (lent ed (now plens) (now paths) (now tlens) (now trees) (now order)) × (ed .«open» ≡ 0) × Cached ed slot × Starts from (pathOf (now plens) (now paths) slot) ⌝ }
     ensures { λ q. ⌜ Made (begun sha1 (startOf from (pathOf (now (plens .entry)) (now (paths .entry)) slot))) (lent ed (now (plens .entry)) (now (paths .entry)) (now (tlens .entry)) (now (trees .entry)) (now (order .entry)))
         (lent q (now (plens .exit)) (now (paths .exit)) (now (tlens .exit)) (now (trees .exit)) (now (order .exit))) ⌝ }
 {
-    let empty = Editor { open: from, ..ed };
+    let empty = Record { open: from, ..ed };
     let one = store_taken::stack(empty, order, slot);
     let next = editor_write_steps::turn::onward(one, plens, paths, tlens, trees, order, 20);
     let two = next.editor;
@@ -39,7 +39,7 @@ fn begin_slot(
 
 // Begins a write at the tree at a prefix, over slices that hold an editor with none open.
 fn begin_held(
-    ed: Editor,
+    ed: Record,
     plens: &mut [u64],
     paths: &mut [u8],
     tlens: &mut [u64],
@@ -69,7 +69,7 @@ fn begin_held(
 
 // Begins a write at a prefix, from the root (1) or from a cursor (2).
 fn begin_from(
-    ed: Editor,
+    ed: Record,
     plens: &mut [u64],
     paths: &mut [u8],
     tlens: &mut [u64],
@@ -108,7 +108,7 @@ fn begin_from(
 
 // Begins a write from the root.
 pub fn begin(
-    ed: Editor,
+    ed: Record,
     plens: &mut [u64],
     paths: &mut [u8],
     tlens: &mut [u64],
@@ -123,7 +123,7 @@ pub fn begin(
 
 // Begins a write at a cursor's prefix.
 pub fn begin_at(
-    ed: Editor,
+    ed: Record,
     plens: &mut [u64],
     paths: &mut [u8],
     tlens: &mut [u64],
@@ -139,7 +139,7 @@ pub fn begin_at(
 
 // Begins a write at the tree of a cursor.
 pub fn begin_cursor(
-    ed: Editor,
+    ed: Record,
     plens: &mut [u64],
     paths: &mut [u8],
     tlens: &mut [u64],

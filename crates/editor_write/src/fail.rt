@@ -8,17 +8,17 @@ ghost use Rattle.editor.specs.Lent.{lent, Does};
 ghost use Rattle.editor_write.specs.Steps.{Made};
 use editor::root::Answer;
 use editor_terms::code::Code;
-use store_slots::Editor;
+use store_slots::Record;
 
 // A failure over slices that hold an editor with an open write.
 fn fail_held(
-    ed: Editor,
+    ed: Record,
     plens: &mut [u64],
     paths: &mut [u8],
     tlens: &mut [u64],
     trees: &mut [u8],
     order: &[u64],
-) -> Editor
+) -> Record
     requires { ⌜ Holds sha1 ed (now plens) (now paths) (now tlens) (now trees) (now order) × (ed .«open» ≡ 0 → ⊥) ⌝ }
     ensures { λ q. ⌜ Made failed (lent ed (now (plens .entry)) (now (paths .entry)) (now (tlens .entry)) (now (trees .entry)) (now (order .entry)))
         (lent q (now (plens .exit)) (now (paths .exit)) (now (tlens .exit)) (now (trees .exit)) (now (order .entry))) ⌝ }
@@ -30,7 +30,7 @@ fn fail_held(
 
 // Fails the open request: the start tree goes back as it stands, the other taken trees are lost.
 pub fn fail(
-    ed: Editor,
+    ed: Record,
     plens: &mut [u64],
     paths: &mut [u8],
     tlens: &mut [u64],

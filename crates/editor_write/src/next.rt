@@ -8,18 +8,18 @@ ghost use Rattle.editor_write.specs.Requests.{Requests};
 use crate::request::Asked;
 use editor_terms::code::Code;
 use editor_terms::id::Id;
-use store_slots::Editor;
+use store_slots::Record;
 
 // What an answer gave, the editor after it, and what reading the next request gave.
 pub struct Next {
     pub code: Code,
-    pub ed: Editor,
+    pub ed: Record,
     pub next: Asked,
 }
 
 // Answers the open request with the id of the tree that was requested, and reads the request that is open then.
 pub fn answer_and_request(
-    ed: Editor,
+    ed: Record,
     plens: &mut [u64],
     paths: &mut [u8],
     tlens: &mut [u64],

@@ -15,7 +15,7 @@ ghost use Rattle.editor.specs.Looks.{cursorAt};
 ghost use Rattle.editor_write.specs.Requests.{placeIn, Shows, Requests};
 use editor::cursor::Cursor;
 use editor_terms::code::Code;
-use store_slots::Editor;
+use store_slots::Record;
 
 // The answer, how long the raw tree is that was written to the front of the output, and where the tree belongs; the root where it is refused.
 pub struct Asked {
@@ -37,7 +37,7 @@ pub(crate) fn refused(code: Code) -> Asked
 
 // The request over slices that hold an editor with an open write.
 fn request_held(
-    ed: Editor,
+    ed: Record,
     plens: &[u64],
     paths: &[u8],
     tlens: &[u64],
@@ -65,7 +65,7 @@ fn request_held(
 
 // The request over a store that holds an editor: 10 where no write is open. Its order of the taken trees is not looked at.
 pub(crate) fn request_accepted(
-    ed: Editor,
+    ed: Record,
     plens: &[u64],
     paths: &[u8],
     tlens: &[u64],
@@ -91,7 +91,7 @@ pub(crate) fn request_accepted(
 
 // Writes the raw tree that is requested to the front of the output.
 pub fn request(
-    ed: Editor,
+    ed: Record,
     plens: &[u64],
     paths: &[u8],
     tlens: &[u64],

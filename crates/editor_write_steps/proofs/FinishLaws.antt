@@ -16,7 +16,7 @@ use Rattle.model.specs.Write.{Going}
 use Rattle.model.proofs.Basics.{no-way, and-right, not-true}
 use Rattle.store_runs.specs.Digits.{digits}
 use Rattle.store_slots.specs.View.{Laid, Used, pathOf, treeOf, heldAt, asideOf, stackedOf}
-use Rattle.store_slots.specs.declared.Editor.{Editor}
+use Rattle.store_slots.specs.declared.Record.{Record}
 use Rattle.store_slots.proofs.Calls.{tree-size}
 use Rattle.store_entries.specs.Entries.{Edited}
 use Rattle.store_taken.specs.Taken.{goingOf, Between}
@@ -47,7 +47,7 @@ size-zero w n (x ∷ t) e = go (eqb n 0) refl
         let q : suc (length t) * (2 + w) ≡ length t * (2 + w) + (2 + w) = suc-mul (length t) (2 + w) in
         absurd (omega (arith, eqb-true n 0 y, e, q))
 
-module _ (w : ℕ) (r : Editor) (plens paths tlens trees : List ℕ) (L : Laid w r plens paths tlens trees) (slot : ℕ) (u : Used r slot) (q : Editor) (tlens′ trees′ : List ℕ)
+module _ (w : ℕ) (r : Record) (plens paths tlens trees : List ℕ) (L : Laid w r plens paths tlens trees) (slot : ℕ) (u : Used r slot) (q : Record) (tlens′ trees′ : List ℕ)
     (E : Edited w r plens paths tlens trees slot (withoutId (null w) (treeOf w tlens trees slot)) q tlens′ trees′) where
   -- the write, and the tree in hand
   pub null-going : (order : List ℕ) → Between r order (slot ∷ []) → goingOf w q plens paths tlens′ trees′ order ≡ goingOf w r plens paths tlens trees order
@@ -96,7 +96,7 @@ some-long [] [] e = no-way e
 some-long [] (x ∷ k) e = omega arith
 some-long (x ∷ s) k e = omega arith
 
-pub some-there : (w : ℕ) (r : Editor) (plens paths tlens trees order : List ℕ) → Between r order [] → (isNil (stackedOf w r plens paths tlens trees order) && isNil (asideOf w r plens paths tlens trees order)) ≡ false → 0 < r .aside + r .stacked
+pub some-there : (w : ℕ) (r : Record) (plens paths tlens trees order : List ℕ) → Between r order [] → (isNil (stackedOf w r plens paths tlens trees order) && isNil (asideOf w r plens paths tlens trees order)) ≡ false → 0 < r .aside + r .stacked
 some-there w r plens paths tlens trees order b e =
     omega (
       arith,

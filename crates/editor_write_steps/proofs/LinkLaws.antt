@@ -25,7 +25,7 @@ use Rattle.store_runs.proofs.DigitLaws.{length-digits}
 use Rattle.store_runs.proofs.Laws.{length-cut}
 use Rattle.store_slots.specs.View.{ifUsed, heldIn, slotsOf, SlotIs, Laid, Used, SameWrite, pathOf, treeOf, heldAt, cachedOf, asideOf, stackedOf, allDifferent}
 use Rattle.store_slots.proofs.Where.{slot-is}
-use Rattle.store_slots.specs.declared.Editor.{Editor}
+use Rattle.store_slots.specs.declared.Record.{Record}
 use Rattle.store_entries.specs.Entries.{Kept, Edited}
 use Rattle.store_taken.specs.Taken.{goingOf, Between, SameTree, allTaken}
 use Rattle.store_taken.proofs.Marking.{all-both, all-left, all-right, all-other, map-same, marked-here}
@@ -69,14 +69,14 @@ used-once w (d ∷ ds) (p ∷ ps) (b ∷ bs) (suc j) (suc k) l r h g y z e a = a
     go zero x = and-right (not (among p (map at (slotsOf w ds ps bs)))) (distinct (map at (slotsOf w ds ps bs))) x
     go (suc d) x = x
 
-module _ (w : ℕ) (r : Editor) (plens paths tlens trees : List ℕ) (L : Laid w r plens paths tlens trees) where
+module _ (w : ℕ) (r : Record) (plens paths tlens trees : List ℕ) (L : Laid w r plens paths tlens trees) where
   -- no two slots are at one path
   pub one-slot : (j k : ℕ) → Used r j → Used r k → pathOf plens paths j ≡ pathOf plens paths k → j ≡ k
   one-slot j k u v e =
       let d = length-digits 64 (r .free) in
       used-once w (digits 64 (r .free)) (cut plens paths) (cut tlens trees) j k (length-cut plens paths ∙ L .plens-64 ∙ sym d) (length-cut tlens trees ∙ L .tlens-64 ∙ sym d) (omega (arith, d, u .low)) (omega (arith, d, v .low)) (u .used) (v .used) e (L .apart)
 
-pub path-among : (w : ℕ) (r : Editor) (plens paths : List ℕ) (bs : List Bytes) (j : ℕ) → length plens ≡ 64 → length bs ≡ 64 → Used r j → among (pathOf plens paths j) (map at (slotsOf w (digits 64 (r .free)) (cut plens paths) bs)) ≡ true
+pub path-among : (w : ℕ) (r : Record) (plens paths : List ℕ) (bs : List Bytes) (j : ℕ) → length plens ≡ 64 → length bs ≡ 64 → Used r j → among (pathOf plens paths j) (map at (slotsOf w (digits 64 (r .free)) (cut plens paths) bs)) ≡ true
 path-among w r plens paths bs j l b u =
     let d = length-digits 64 (r .free) in
     used-among w (digits 64 (r .free)) (cut plens paths) bs j (length-cut plens paths ∙ l ∙ sym d) (b ∙ sym d) (omega (arith, d, u .low)) (u .used)
@@ -155,12 +155,12 @@ above P p (h ∷ hs) a e = go (same (h .path) (dir p)) refl (isTreeEntry (entryO
     go false q t z ih y = ih y
 
 -- the slot j is set aside and has a tree entry for the path p
-pub record Parent (w : ℕ) (r : Editor) (plens paths tlens trees order : List ℕ) (p : Bytes) (j : ℕ) : Type 0 where
+pub record Parent (w : ℕ) (r : Record) (plens paths tlens trees order : List ℕ) (p : Bytes) (j : ℕ) : Type 0 where
   pub used : Used r j
   pub aside : has j (take (r .aside) order) ≡ true
   pub is : Above p (heldAt w plens paths tlens trees j)
 
-pub parent-there : (w : ℕ) (r : Editor) (plens paths tlens trees order hand : List ℕ) (p : Bytes) → Between r order hand → hasParent p (asideOf w r plens paths tlens trees order) ≡ true → (j : ℕ) × Parent w r plens paths tlens trees order p j
+pub parent-there : (w : ℕ) (r : Record) (plens paths tlens trees order hand : List ℕ) (p : Bytes) → Between r order hand → hasParent p (asideOf w r plens paths tlens trees order) ≡ true → (j : ℕ) × Parent w r plens paths tlens trees order p j
 parent-there w r plens paths tlens trees order hand p b e =
     let A = take (r .aside) order in
     let f = heldAt w plens paths tlens trees in
@@ -186,10 +186,10 @@ change-map : (q : Bytes) (f : Tree → Tree) (g : ℕ → Held) (l : List ℕ) �
 change-map q f g [] = refl
 change-map q f g (x ∷ l) = ap (λ (m : List Held). cond (same (g x .path) q) (record { path = g x .path; held = f (g x .held) }) (g x) ∷ m) (change-map q f g l)
 
-pub write-more : {r q s : Editor} → SameWrite r q → SameWrite q s → SameWrite r s
+pub write-more : {r q s : Record} → SameWrite r q → SameWrite q s → SameWrite r s
 write-more a b = record { «open» = b .«open» ∙ a .«open»; aside = b .aside ∙ a .aside; stacked = b .stacked ∙ a .stacked; asked = b .asked ∙ a .asked }
 
-pub between-kept : (r q : Editor) (order hand : List ℕ) → Kept r q → Between r order hand → Between q order hand
+pub between-kept : (r q : Record) (order hand : List ℕ) → Kept r q → Between r order hand → Between q order hand
 between-kept r q order hand k b = record {
   order-64 = b .order-64;
   under-way = λ z. b .under-way (sym (k .write .«open») ∙ z);
@@ -198,8 +198,8 @@ between-kept r q order hand k b = record {
   marks = marks-same r q (allTaken r order hand) (allTaken q order hand) (k .free) (k .hidden) (ap₂ (λ (x y : ℕ). hand ++ (take x order ++ drop (64 - y) order)) (k .write .aside) (k .write .stacked)) (b .marks);
 }
 
-module _ (w : ℕ) (r : Editor) (plens paths tlens trees : List ℕ) (L : Laid w r plens paths tlens trees) (order hand : List ℕ) (b : Between r order hand) (k : ℕ) (u : Used r k) (s : has k (take (r .aside) order) ≡ true) (f : Tree → Tree)
-    (q : Editor) (tlens′ trees′ : List ℕ) (E : Edited w r plens paths tlens trees k (f (treeOf w tlens trees k)) q tlens′ trees′) where
+module _ (w : ℕ) (r : Record) (plens paths tlens trees : List ℕ) (L : Laid w r plens paths tlens trees) (order hand : List ℕ) (b : Between r order hand) (k : ℕ) (u : Used r k) (s : has k (take (r .aside) order) ≡ true) (f : Tree → Tree)
+    (q : Record) (tlens′ trees′ : List ℕ) (E : Edited w r plens paths tlens trees k (f (treeOf w tlens trees k)) q tlens′ trees′) where
   abbrev A : List ℕ
   A = take (r .aside) order
 
@@ -259,32 +259,32 @@ module _ (w : ℕ) (r : Editor) (plens paths tlens trees : List ℕ) (L : Laid w
 
 -- ---- an edit of the parent of the tree in hand
 
-module _ (w : ℕ) (r : Editor) (plens paths tlens trees : List ℕ) (L : Laid w r plens paths tlens trees) (slot k : ℕ) (u : Used r k) (e : pathOf plens paths k ≡ dir (pathOf plens paths slot)) where
+module _ (w : ℕ) (r : Record) (plens paths tlens trees : List ℕ) (L : Laid w r plens paths tlens trees) (slot k : ℕ) (u : Used r k) (e : pathOf plens paths k ≡ dir (pathOf plens paths slot)) where
   -- the slot at the parent's path is the parent's
   pub is-parent : (order : List ℕ) → Child w r plens paths tlens trees order slot → Parent w r plens paths tlens trees order (pathOf plens paths slot) k
   is-parent order c =
       let (j, p) = parent-there w r plens paths tlens trees order (slot ∷ []) (pathOf plens paths slot) (c .between) (c .parent) in
       subst (Parent w r plens paths tlens trees order (pathOf plens paths slot)) (one-slot w r plens paths tlens trees L j k (p .used) u (p .is .path ∙ sym e)) p
 
-  module _ (f : Tree → Tree) (q : Editor) (tlens′ trees′ : List ℕ) (E : Edited w r plens paths tlens trees k (f (treeOf w tlens trees k)) q tlens′ trees′) where
+  module _ (f : Tree → Tree) (q : Record) (tlens′ trees′ : List ℕ) (E : Edited w r plens paths tlens trees k (f (treeOf w tlens trees k)) q tlens′ trees′) where
     parent-going : (order : List ℕ) → Child w r plens paths tlens trees order slot →
         goingOf w q plens paths tlens′ trees′ order ≡ record { cache = cachedOf w r plens paths tlens trees; stack = stackedOf w r plens paths tlens trees order; kept = changeAt (dir (pathOf plens paths slot)) f (asideOf w r plens paths tlens trees order) }
     parent-going order c =
         edit-going w r plens paths tlens trees L order (slot ∷ []) (c .between) k u (is-parent order c .aside) f q tlens′ trees′ E
         ∙ ap (λ (x : Bytes). record { cache = cachedOf w r plens paths tlens trees; stack = stackedOf w r plens paths tlens trees order; kept = changeAt x f (asideOf w r plens paths tlens trees order) }) e
 
-  pub unlink-going : (q : Editor) (tlens′ trees′ : List ℕ) → Edited w r plens paths tlens trees k (without (base (pathOf plens paths slot)) (treeOf w tlens trees k)) q tlens′ trees′ →
+  pub unlink-going : (q : Record) (tlens′ trees′ : List ℕ) → Edited w r plens paths tlens trees k (without (base (pathOf plens paths slot)) (treeOf w tlens trees k)) q tlens′ trees′ →
       (order : List ℕ) → Child w r plens paths tlens trees order slot → goingOf w q plens paths tlens′ trees′ order ≡ unlinkedOn (pathOf plens paths slot) (goingOf w r plens paths tlens trees order)
   unfolding unlinked
   unlink-going q tlens′ trees′ E = parent-going (λ t. without (base (pathOf plens paths slot)) t) q tlens′ trees′ E
 
-  pub link-going : (i : Bytes) (q : Editor) (tlens′ trees′ : List ℕ) → Edited w r plens paths tlens trees k (withEntry (record { mode = TREE; name = base (pathOf plens paths slot); id = i }) (treeOf w tlens trees k)) q tlens′ trees′ →
+  pub link-going : (i : Bytes) (q : Record) (tlens′ trees′ : List ℕ) → Edited w r plens paths tlens trees k (withEntry (record { mode = TREE; name = base (pathOf plens paths slot); id = i }) (treeOf w tlens trees k)) q tlens′ trees′ →
       (order : List ℕ) → Child w r plens paths tlens trees order slot → goingOf w q plens paths tlens′ trees′ order ≡ linkedOn i (pathOf plens paths slot) (goingOf w r plens paths tlens trees order)
   unfolding linked
   link-going i q tlens′ trees′ E = parent-going (λ t. withEntry (record { mode = TREE; name = base (pathOf plens paths slot); id = i }) t) q tlens′ trees′ E
 
 -- a slot that was found at a path
-pub found-slot : (r : Editor) (plens paths : List ℕ) (p : Bytes) (f : Found) (k : ℕ) → length plens ≡ 64 → f ≡ findFrom 0 (digits 64 (r .free)) (cut plens paths) p → f ≡ At k → Used r k × (pathOf plens paths k ≡ p)
+pub found-slot : (r : Record) (plens paths : List ℕ) (p : Bytes) (f : Found) (k : ℕ) → length plens ≡ 64 → f ≡ findFrom 0 (digits 64 (r .free)) (cut plens paths) p → f ≡ At k → Used r k × (pathOf plens paths k ≡ p)
 found-slot r plens paths p f k l e g =
     let d = length-digits 64 (r .free) in
     let n = length-cut plens paths ∙ l ∙ sym d in
@@ -292,7 +292,7 @@ found-slot r plens paths p f k l e g =
     (record { low = omega (arith, d, x .0); used = x .1 }, x .2)
 
 -- some slot is found where a used one is
-pub some-slot : {B : Type 0} (r : Editor) (plens paths : List ℕ) (p : Bytes) (f : Found) (j : ℕ) → length plens ≡ 64 → f ≡ findFrom 0 (digits 64 (r .free)) (cut plens paths) p → f ≡ Nothing → Used r j → pathOf plens paths j ≡ p → B
+pub some-slot : {B : Type 0} (r : Record) (plens paths : List ℕ) (p : Bytes) (f : Found) (j : ℕ) → length plens ≡ 64 → f ≡ findFrom 0 (digits 64 (r .free)) (cut plens paths) p → f ≡ Nothing → Used r j → pathOf plens paths j ≡ p → B
 some-slot r plens paths p f j l e g u q =
     let d = length-digits 64 (r .free) in
     let n = length-cut plens paths ∙ l ∙ sym d in

@@ -25,7 +25,7 @@ use Rattle.store_runs.proofs.Laws.{length-cut}
 use Rattle.store_runs.specs.declared.runs.Found.{Found}
 use Rattle.store_runs.specs.declared.runs.Found.the-variants.{At, Nothing}
 use Rattle.store_slots.specs.View.{heldIn, Laid, SlotIs, heldAt, cachedOf}
-use Rattle.store_slots.specs.declared.Editor.{Editor}
+use Rattle.store_slots.specs.declared.Record.{Record}
 use Rattle.store_taken.specs.Taken.{goingOf, Between, Cached, SameSlots}
 use Rattle.store_taken.proofs.Steps.{laid-same}
 use Rattle.names.specs.Fronts.{lead}
@@ -34,10 +34,10 @@ use Rattle.editor_write_steps.specs.Writes.{kidOn, scannedOn, Stacks}
 -- ---- the slot of a path
 
 -- what the search of the cached slots ensures
-abbrev pub Shows : Editor → List ℕ → List ℕ → Bytes → Found → Type 0
+abbrev pub Shows : Record → List ℕ → List ℕ → Bytes → Found → Type 0
 Shows r plens paths path f = (w : ℕ) (runs : List Bytes) → length runs ≡ 64 → SlotIs w (digits 64 (r .hidden)) (cut plens paths) runs path f
 
-module _ (r : Editor) (plens paths : List ℕ) (path : Bytes) (f : Found) (s : Shows r plens paths path f) where
+module _ (r : Record) (plens paths : List ℕ) (path : Bytes) (f : Found) (s : Shows r plens paths path f) where
   at-slot : (k w : ℕ) (runs : List Bytes) → f ≡ At k → length runs ≡ 64 → SlotIs w (digits 64 (r .hidden)) (cut plens paths) runs path (At k)
   at-slot k w runs e l = subst (SlotIs w (digits 64 (r .hidden)) (cut plens paths) runs path) e (s w runs l)
 
@@ -70,10 +70,10 @@ scan-entry p e t g = scan-kid p t (cond (isTree (e .mode)) (find at (join p (e .
 
 -- ---- what stays of the record
 
-pub stacks-none : (r : Editor) → Stacks r r
+pub stacks-none : (r : Record) → Stacks r r
 stacks-none r = record { slots = record { free = refl; paths = refl; trees = refl; entries = refl; names = refl }; «open» = refl; aside = refl; asked = refl }
 
-pub slots-more : {r q s : Editor} → SameSlots r q → SameSlots q s → SameSlots r s
+pub slots-more : {r q s : Record} → SameSlots r q → SameSlots q s → SameSlots r s
 slots-more a b =
     record {
       free = b .free ∙ a .free;
@@ -83,7 +83,7 @@ slots-more a b =
       names = b .names ∙ a .names;
     }
 
-pub stacks-more : {r q s : Editor} → Stacks r q → Stacks q s → Stacks r s
+pub stacks-more : {r q s : Record} → Stacks r q → Stacks q s → Stacks r s
 stacks-more a b = record { slots = slots-more (a .slots) (b .slots); «open» = b .«open» ∙ a .«open»; aside = b .aside ∙ a .aside; asked = b .asked ∙ a .asked }
 
 -- ---- the loop
@@ -99,24 +99,24 @@ good-at w (e ∷ es) zero g h = name-short (e .name) (and-left (goodName (e .nam
 good-at w (e ∷ es) (suc i) g h = good-at w es i (and-right (goodName (e .name) && eqb (length (e .id)) w) (goodEntries w es) g) (omega arith)
 
 -- the scan has come to the entry i
-pub record Scanning (w : ℕ) (plens paths : List ℕ) (p b : Bytes) (r : Editor) (order : List ℕ) (q : Editor) (order′ : List ℕ) (i a : ℕ) : Type 0 where
+pub record Scanning (w : ℕ) (plens paths : List ℕ) (p b : Bytes) (r : Record) (order : List ℕ) (q : Record) (order′ : List ℕ) (i a : ℕ) : Type 0 where
   pub walked : Walked w b i a
   pub same : Stacks r q
   pub between : (hand : List ℕ) → Between r order hand → Between q order′ hand
   pub rest : (tlens trees : List ℕ) → Laid w r plens paths tlens trees →
       scannedOn p (drop i (unpack w b)) (goingOf w q plens paths tlens trees order′) ≡ scannedOn p (unpack w b) (goingOf w r plens paths tlens trees order)
 
-pub scan-begin : (w : ℕ) (plens paths : List ℕ) (p b : Bytes) (r : Editor) (order : List ℕ) → Scanning w plens paths p b r order r order 0 0
+pub scan-begin : (w : ℕ) (plens paths : List ℕ) (p b : Bytes) (r : Record) (order : List ℕ) → Scanning w plens paths p b r order r order 0 0
 scan-begin w plens paths p b r order = record { walked = walk-begin w b; same = stacks-none r; between = λ hand x. x; rest = λ tlens trees L. refl }
 
-module _ {w : ℕ} {plens paths : List ℕ} {p b : Bytes} {r : Editor} {order : List ℕ} {q : Editor} {order′ : List ℕ} {i a : ℕ} (s : Scanning w plens paths p b r order q order′ i a) (run : Run w b) where
+module _ {w : ℕ} {plens paths : List ℕ} {p b : Bytes} {r : Record} {order : List ℕ} {q : Record} {order′ : List ℕ} {i a : ℕ} (s : Scanning w plens paths p b r order q order′ i a) (run : Run w b) where
   pub scan-end : length b ≤ a → (tlens trees : List ℕ) → Laid w r plens paths tlens trees →
       goingOf w q plens paths tlens trees order′ ≡ scannedOn p (unpack w b) (goingOf w r plens paths tlens trees order)
   scan-end h tlens trees L =
       ap (λ (t : Tree). scannedOn p t (goingOf w q plens paths tlens trees order′)) (sym (drop-of-length-le (unpack w b) {i = i} (omega (arith, walk-end (s .walked) run h)))) ∙ s .rest tlens trees L
 
   module _ (h : a < length b) where
-    pub scan-more : {q₂ : Editor} {order₂ : List ℕ} {c : ℕ} (path : Bytes) (k : ℕ) → path ≡ join p (entryAt w b i .name) → k ≡ kindOf (entryAt w b i .mode) → c ≡ offset w b (i + 1) →
+    pub scan-more : {q₂ : Record} {order₂ : List ℕ} {c : ℕ} (path : Bytes) (k : ℕ) → path ≡ join p (entryAt w b i .name) → k ≡ kindOf (entryAt w b i .mode) → c ≡ offset w b (i + 1) →
         Stacks q q₂ → ((hand : List ℕ) → Between q order′ hand → Between q₂ order₂ hand) →
         ((v : ℕ) (tlens trees : List ℕ) → Laid v q plens paths tlens trees →
         goingOf v q₂ plens paths tlens trees order₂ ≡ kidOn (cond (eqb k 0) (find at path (cachedOf v q plens paths tlens trees)) none) (goingOf v q plens paths tlens trees order′)) →

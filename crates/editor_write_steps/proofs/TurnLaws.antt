@@ -14,13 +14,13 @@ use Rattle.model.specs.Paths.{join}
 use Rattle.model.specs.Editor.{Held, at, Cache}
 use Rattle.model.specs.Write.{Going, oneKid, scanned}
 use Rattle.store_slots.specs.View.{heldAt, asideOf, stackedOf}
-use Rattle.store_slots.specs.declared.Editor.{Editor}
+use Rattle.store_slots.specs.declared.Record.{Record}
 use Rattle.store_taken.specs.Taken.{keptOn, Between}
 use Rattle.editor_write_steps.specs.Writes.{scannedOn, topTurn, turned}
 
 -- ---- how many are stacked and set aside
 
-module _ (r : Editor) (order hand : List ℕ) (b : Between r order hand) (w : ℕ) (plens paths tlens trees : List ℕ) where
+module _ (r : Record) (order hand : List ℕ) (b : Between r order hand) (w : ℕ) (plens paths tlens trees : List ℕ) where
   pub stack-long : length (stackedOf w r plens paths tlens trees order) ≡ r .stacked
   stack-long =
       omega (arith, length-map (drop (64 - r .stacked) order) (heldAt w plens paths tlens trees), length-drop (64 - r .stacked) order, b .room, b .order-64)

@@ -12,7 +12,7 @@ use Rattle.model.specs.Write.{Going, Asking, scanned, unlinked, linked}
 use Rattle.model.specs.Order.{All}
 use Rattle.model.specs.Valid.{hasParent}
 use Rattle.store_slots.specs.View.{pathOf, asideOf}
-use Rattle.store_slots.specs.declared.Editor.{Editor}
+use Rattle.store_slots.specs.declared.Record.{Record}
 use Rattle.store_taken.specs.Taken.{stackedOn, takenOff, SameSlots, Between}
 
 -- a cached tree that was found is taken off the cache and stacked
@@ -25,7 +25,7 @@ abbrev pub scannedOn : Bytes → Tree → Going → Going
 scannedOn p t g = record { cache = (scanned p t (g .cache)) .left; stack = reverse ((scanned p t (g .cache)) .kids) ++ g .stack; kept = g .kept }
 
 -- only what is cached and what is stacked changed
-pub record Stacks (r q : Editor) : Type 0 where
+pub record Stacks (r q : Record) : Type 0 where
   pub slots : SameSlots r q
   pub «open» : q .«open» ≡ r .«open»
   pub aside : q .aside ≡ r .aside
@@ -71,7 +71,7 @@ abbrev pub linkedOn : Bytes → Bytes → Going → Going
 linkedOn i p g = record { cache = g .cache; stack = g .stack; kept = linked i p (g .kept) }
 
 -- the tree in the slot k is in hand, and its parent is set aside
-pub record Child (w : ℕ) (r : Editor) (plens paths tlens trees order : List ℕ) (k : ℕ) : Type 0 where
+pub record Child (w : ℕ) (r : Record) (plens paths tlens trees order : List ℕ) (k : ℕ) : Type 0 where
   pub between : Between r order (k ∷ [])
   pub parent : hasParent (pathOf plens paths k) (asideOf w r plens paths tlens trees order) ≡ true
 
@@ -99,7 +99,7 @@ abbrev pub nextOf : Bytes → Going → Step
 nextOf nil g = ended nil ((turned g) .finish) ((turned g) .hand) ((turned g) .rest)
 
 -- the tree in the slot k is in hand, and its parent is set aside if it is not the start tree
-pub record Hand (w : ℕ) (r : Editor) (plens paths tlens trees order : List ℕ) (k : ℕ) : Type 0 where
+pub record Hand (w : ℕ) (r : Record) (plens paths tlens trees order : List ℕ) (k : ℕ) : Type 0 where
   pub between : Between r order (k ∷ [])
   pub parent : isNil (asideOf w r plens paths tlens trees order) ≡ false → hasParent (pathOf plens paths k) (asideOf w r plens paths tlens trees order) ≡ true
 

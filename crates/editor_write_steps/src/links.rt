@@ -12,10 +12,10 @@ ghost use Rattle.store_taken.specs.Taken.{goingOf, Between};
 ghost use Rattle.editor_write_steps.specs.Writes.{unlinkedOn, linkedOn, Child};
 use names::mode::EntryKind;
 use store_runs::runs::Found;
-use store_slots::Editor;
+use store_slots::Record;
 
 // The slot of the tree that the tree in a slot lies below.
-fn parent_of(r: Editor, plens: &[u64], paths: &[u8], slot: usize) -> usize
+fn parent_of(r: Record, plens: &[u64], paths: &[u8], slot: usize) -> usize
     requires { ⌜ Sound (now plens) (now paths) (r .paths) × (length (now plens) ≡ 64) × (slot < 64)
         × ((j : ℕ) × Used r j × (pathOf (now plens) (now paths) j ≡ dir (pathOf (now plens) (now paths) slot))) ⌝ }
     ensures { λ k. ⌜ Used r k × (pathOf (now (plens .entry)) (now (paths .entry)) k ≡ dir (pathOf (now (plens .entry)) (now (paths .entry)) slot)) ⌝ }
@@ -31,14 +31,14 @@ fn parent_of(r: Editor, plens: &[u64], paths: &[u8], slot: usize) -> usize
 
 // Removes the entry of the tree in hand from its parent.
 fn remove_entry(
-    r: Editor,
+    r: Record,
     plens: &[u64],
     paths: &[u8],
     tlens: &mut [u64],
     trees: &mut [u8],
     width: usize,
     slot: usize,
-) -> Editor
+) -> Record
     requires { ⌜ Laid width r (now plens) (now paths) (now tlens) (now trees) × (width ≤ 64) × ((order : List ℕ) × Child width r (now plens) (now paths) (now tlens) (now trees) order slot) ⌝ }
     ensures going { λ q. ⌜ ((order : List ℕ) → Child width r (now (plens .entry)) (now (paths .entry)) (now (tlens .entry)) (now (trees .entry)) order slot → goingOf width q (now (plens .entry)) (now (paths .entry)) (now (tlens .exit)) (now (trees .exit)) order
         ≡ unlinkedOn (pathOf (now (plens .entry)) (now (paths .entry)) slot) (goingOf width r (now (plens .entry)) (now (paths .entry)) (now (tlens .entry)) (now (trees .entry)) order)) ⌝ }
@@ -54,14 +54,14 @@ fn remove_entry(
 
 // An empty tree's entry in its parent goes, and the tree itself.
 pub fn unlink(
-    r: Editor,
+    r: Record,
     plens: &mut [u64],
     paths: &mut [u8],
     tlens: &mut [u64],
     trees: &mut [u8],
     width: usize,
     slot: usize,
-) -> Editor
+) -> Record
     requires { ⌜ Laid width r (now plens) (now paths) (now tlens) (now trees) × (width ≤ 64) × ((order : List ℕ) × Child width r (now plens) (now paths) (now tlens) (now trees) order slot) ⌝ }
     ensures going { λ q. ⌜ ((order : List ℕ) → Child width r (now (plens .entry)) (now (paths .entry)) (now (tlens .entry)) (now (trees .entry)) order slot → goingOf width q (now (plens .exit)) (now (paths .exit)) (now (tlens .exit)) (now (trees .exit)) order
         ≡ unlinkedOn (pathOf (now (plens .entry)) (now (paths .entry)) slot) (goingOf width r (now (plens .entry)) (now (paths .entry)) (now (tlens .entry)) (now (trees .entry)) order)) ⌝ }
@@ -75,7 +75,7 @@ pub fn unlink(
 
 // Sets the id of the entry of the tree in hand in its parent.
 fn set_entry(
-    r: Editor,
+    r: Record,
     plens: &[u64],
     paths: &[u8],
     tlens: &mut [u64],
@@ -83,7 +83,7 @@ fn set_entry(
     width: usize,
     slot: usize,
     id: &[u8],
-) -> Editor
+) -> Record
     requires { ⌜ Laid width r (now plens) (now paths) (now tlens) (now trees) × (width ≤ 64) × ((order : List ℕ) × Child width r (now plens) (now paths) (now tlens) (now trees) order slot)
         × (length (now id) ≡ width) × (fits (viewOf width r (now plens) (now paths) (now tlens) (now trees)) ≡ true) ⌝ }
     ensures going { λ q. ⌜ ((order : List ℕ) → Child width r (now (plens .entry)) (now (paths .entry)) (now (tlens .entry)) (now (trees .entry)) order slot → goingOf width q (now (plens .entry)) (now (paths .entry)) (now (tlens .exit)) (now (trees .exit)) order
@@ -111,7 +111,7 @@ fn set_entry(
 
 // A finished tree's entry in its parent has this id now, and the tree itself goes.
 pub fn link(
-    r: Editor,
+    r: Record,
     plens: &mut [u64],
     paths: &mut [u8],
     tlens: &mut [u64],
@@ -119,7 +119,7 @@ pub fn link(
     width: usize,
     slot: usize,
     id: &[u8],
-) -> Editor
+) -> Record
     requires { ⌜ Laid width r (now plens) (now paths) (now tlens) (now trees) × (width ≤ 64) × ((order : List ℕ) × Child width r (now plens) (now paths) (now tlens) (now trees) order slot)
         × (length (now id) ≡ width) × (fits (viewOf width r (now plens) (now paths) (now tlens) (now trees)) ≡ true) ⌝ }
     ensures going { λ q. ⌜ ((order : List ℕ) → Child width r (now (plens .entry)) (now (paths .entry)) (now (tlens .entry)) (now (trees .entry)) order slot → goingOf width q (now (plens .exit)) (now (paths .exit)) (now (tlens .exit)) (now (trees .exit)) order

@@ -6,18 +6,18 @@ ghost use Rattle.model.specs.Order.{All};
 ghost use Rattle.store_slots.specs.View.{Laid, heldAt, stackedOf};
 ghost use Rattle.store_taken.specs.Taken.{goingOf, Between, SameSlots};
 ghost use Rattle.editor_write_steps.specs.Writes.{Brief, turned, handOf};
-use store_slots::Editor;
+use store_slots::Record;
 
 // A tree that was taken, whether it is to be finished, and the record then.
 pub struct Picked {
     pub finish: bool,
     pub slot: usize,
-    pub editor: Editor,
+    pub editor: Record,
 }
 
 // Takes the top of the stack: with cached trees under it, they are stacked and it is set aside; else it is to be finished.
 fn take_top(
-    r: Editor,
+    r: Record,
     plens: &[u64],
     paths: &[u8],
     tlens: &[u64],
@@ -53,7 +53,7 @@ fn take_top(
 
 // Takes the next tree: the top of the stack, or, when it is empty, the latest set aside, which is to be finished.
 pub fn pick(
-    r: Editor,
+    r: Record,
     plens: &[u64],
     paths: &[u8],
     tlens: &[u64],

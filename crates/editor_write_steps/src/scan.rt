@@ -16,17 +16,17 @@ ghost use Rattle.store_taken.specs.Taken.{goingOf, Between};
 ghost use Rattle.names.specs.Fronts.{lead};
 ghost use Rattle.editor_write_steps.specs.Writes.{kidOn, scannedOn, Stacks};
 use store_runs::runs::Found;
-use store_slots::Editor;
+use store_slots::Record;
 
 // Takes the cached tree at a path off the cache and stacks it, if the path is a tree entry's and one is cached there.
 fn take_kid(
-    r: Editor,
+    r: Record,
     plens: &[u64],
     paths: &[u8],
     order: &mut [u64],
     path: &[u8],
     is_tree: bool,
-) -> Editor
+) -> Record
     requires { ⌜ Sound (now plens) (now paths) (r .paths) × (length (now plens) ≡ 64) × ((hand : List ℕ) × Between r (now order) hand) ⌝ }
     ensures going { λ q. ⌜ ((w : ℕ) (tlens trees : List ℕ) → Laid w r (now (plens .entry)) (now (paths .entry)) tlens trees →
         goingOf w q (now (plens .entry)) (now (paths .entry)) tlens trees (now (order .exit))
@@ -55,14 +55,14 @@ fn put_name(buf: &mut [u8; 1280], n: usize, tree: &[u8], width: usize, at: usize
 
 // Scans the entries of the tree at a path.
 fn scan_entries(
-    r: Editor,
+    r: Record,
     plens: &[u64],
     paths: &[u8],
     order: &mut [u64],
     prefix: &[u8],
     tree: &[u8],
     width: usize,
-) -> Editor
+) -> Record
     requires { ⌜ Sound (now plens) (now paths) (r .paths) × (length (now plens) ≡ 64) × ((hand : List ℕ) × Between r (now order) hand)
         × (length (now prefix) ≤ 1024) × Run width (now tree) × (width ≤ 64) ⌝ }
     ensures going { λ q. ⌜ ((tlens trees : List ℕ) → Laid width r (now (plens .entry)) (now (paths .entry)) tlens trees →
@@ -88,7 +88,7 @@ fn scan_entries(
 
 // Scans the tree in hand.
 pub fn scan(
-    r: Editor,
+    r: Record,
     plens: &[u64],
     paths: &[u8],
     tlens: &[u64],
@@ -96,7 +96,7 @@ pub fn scan(
     order: &mut [u64],
     width: usize,
     slot: usize,
-) -> Editor
+) -> Record
     requires { ⌜ Laid width r (now plens) (now paths) (now tlens) (now trees) × (width ≤ 64) × Between r (now order) (slot ∷ []) × (length (pathOf (now plens) (now paths) slot) ≤ 1024) ⌝ }
     ensures going { λ q. ⌜ goingOf width q (now (plens .entry)) (now (paths .entry)) (now (tlens .entry)) (now (trees .entry)) (now (order .exit))
         ≡ scannedOn (heldAt width (now (plens .entry)) (now (paths .entry)) (now (tlens .entry)) (now (trees .entry)) slot .path) (heldAt width (now (plens .entry)) (now (paths .entry)) (now (tlens .entry)) (now (trees .entry)) slot .held)

@@ -10,7 +10,7 @@ ghost use Rattle.store_slots.specs.View.{Laid, SameWrite, heldAt};
 ghost use Rattle.store_taken.specs.Taken.{goingOf, Between};
 ghost use Rattle.editor_write_steps.specs.Writes.{stepOf, finishedAs, nextOf, handOf, Hand, Ready, Steady, asksOn};
 use crate::pick::Picked;
-use store_slots::Editor;
+use store_slots::Record;
 use store_slots::Taken;
 
 // Whether a tree of so many bytes, with so many set aside, is empty and not the start tree.
@@ -22,7 +22,7 @@ fn is_dropped(len: u64, aside: usize) -> bool
 
 // Finishes the tree in hand: its null-id entries go; it is to be requested then, unless it is empty and not the start tree.
 fn finish(
-    r: Editor,
+    r: Record,
     plens: &mut [u64],
     paths: &mut [u8],
     tlens: &mut [u64],
@@ -54,7 +54,7 @@ fn finish(
 
 // One turn: the next tree is taken, and finished or set aside. Says whether it is to be requested.
 pub fn next(
-    r: Editor,
+    r: Record,
     plens: &mut [u64],
     paths: &mut [u8],
     tlens: &mut [u64],
@@ -80,7 +80,7 @@ pub fn next(
 
 // Goes on to the next request, and gives the slot of the tree that is to be requested.
 pub fn onward(
-    r: Editor,
+    r: Record,
     plens: &mut [u64],
     paths: &mut [u8],
     tlens: &mut [u64],

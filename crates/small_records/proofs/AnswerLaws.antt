@@ -48,15 +48,15 @@ found-inj : (f g : def-places.Found) → def-places.found f ≡ def-places.found
 found-inj f g e = cc
 
 pub one-next : (a b : Next) → nextRead a ≡ nextRead b → a ≡ b
-one-next (next.Record o p n i m x) (next.Record o′ p′ n′ i′ m′ x′) e =
+one-next (next.EditRecord o p n i m x) (next.EditRecord o′ p′ n′ i′ m′ x′) e =
     let q = found-inj _ _ e in
     cc (one-op o o′ (ap (λ (f : def-places.Found). f .op) q), ap (λ (f : def-places.Found). f .path .at) q, ap (λ (f : def-places.Found). f .path .len) q, ap (λ (f : def-places.Found). f .id .at) q, ap (λ (f : def-places.Found). f .id .len) q, ap (λ (f : def-places.Found). f .next) q)
-one-next (next.Record o p n i m x) (next.Bad k) e = absurd (let z : _≡_ {A = ℕ} 0 1 = cc in omega arith)
-one-next (next.Record o p n i m x) next.End e = absurd (let z : _≡_ {A = ℕ} 0 1 = cc in omega arith)
-one-next (next.Bad j) (next.Record o p n i m x) e = absurd (let z : _≡_ {A = ℕ} 0 1 = cc in omega arith)
+one-next (next.EditRecord o p n i m x) (next.Bad k) e = absurd (let z : _≡_ {A = ℕ} 0 1 = cc in omega arith)
+one-next (next.EditRecord o p n i m x) next.End e = absurd (let z : _≡_ {A = ℕ} 0 1 = cc in omega arith)
+one-next (next.Bad j) (next.EditRecord o p n i m x) e = absurd (let z : _≡_ {A = ℕ} 0 1 = cc in omega arith)
 one-next (next.Bad j) (next.Bad k) e = cc
 one-next (next.Bad j) next.End e = absurd (let z : _≡_ {A = ℕ} 0 1 = cc in omega arith)
-one-next next.End (next.Record o p n i m x) e = absurd (let z : _≡_ {A = ℕ} 0 1 = cc in omega arith)
+one-next next.End (next.EditRecord o p n i m x) e = absurd (let z : _≡_ {A = ℕ} 0 1 = cc in omega arith)
 one-next next.End (next.Bad k) e = absurd (let z : _≡_ {A = ℕ} 0 1 = cc in omega arith)
 one-next next.End next.End e = refl
 

@@ -11,7 +11,7 @@ use Rattle.model.specs.Bytes.{Bytes}
 use Rattle.model.specs.Tree.{TREE}
 use Rattle.model.specs.Raw.{octal, modeOf}
 use Rattle.small_records.specs.Hex.{hexed, bytesOf}
-use Rattle.small_records.specs.Records.{Line, whole, cut, pathKey, kindKey, idKey, said, Verb, adds, takes, Op, put, drops, opOf, goodId, editOf, Record, Stage, atOp, atPath, atKind, atId, Step, on, done, wrong, step, Read, bad, good, more, ended, stepped, read}
+use Rattle.small_records.specs.Records.{Line, whole, cut, pathKey, kindKey, idKey, said, Verb, adds, takes, Op, put, drops, opOf, goodId, editOf, EditRecord, Stage, atOp, atPath, atKind, atId, Step, on, done, wrong, step, Read, bad, good, more, ended, stepped, read}
 
 -- w bytes of zeros in hex
 abbrev zeros : ℕ → Bytes
@@ -44,18 +44,18 @@ rest w (atPath o) = whole pathKey ∷ kindLines w o
 rest w (atKind o p) = kindLines w o
 rest w (atId k p) = idLine w k
 
-id-ends : (w n : ℕ) (k : Op) (p : Bytes) → (rs : List Record) × (read w n (idLine w k) (atId k p) ≡ good rs)
+id-ends : (w n : ℕ) (k : Op) (p : Bytes) → (rs : List EditRecord) × (read w n (idLine w k) (atId k p) ≡ good rs)
 unfolding read step said goodId
 id-ends w n (put m) p =
     (record { edit = editOf (put m) (zeros w); path = p } ∷ [], rw (zeros-hex w, eq-eqb (length (zeros w)) (2 * w) (zeros-long w)))
 id-ends w n (drops k) p = (record { edit = editOf (drops k) []; path = p } ∷ [], refl)
 
-kind-ends : (w n : ℕ) (o : Verb) (p : Bytes) → (rs : List Record) × (read w n (kindLines w o) (atKind o p) ≡ good rs)
+kind-ends : (w n : ℕ) (o : Verb) (p : Bytes) → (rs : List EditRecord) × (read w n (kindLines w o) (atKind o p) ≡ good rs)
 unfolding read step said opOf modeOf octal
 kind-ends w n adds p = id-ends w (suc n) (put TREE) p
 kind-ends w n (takes k) p = id-ends w (suc n) (drops k) p
 
-ends : (w n : ℕ) (st : Stage) → (rs : List Record) × (read w n (rest w st) st ≡ good rs)
+ends : (w n : ℕ) (st : Stage) → (rs : List EditRecord) × (read w n (rest w st) st ≡ good rs)
 unfolding read step said hexed bytesOf
 ends w n atOp = ([], refl)
 ends w n (atPath o) = kind-ends w (suc n) o []
@@ -67,17 +67,17 @@ pub record First (w n : ℕ) (ls : List Line) (st : Stage) (m : ℕ) : Type 0 wh
   pub k : ℕ
   pub at : m ≡ n + k
   pub after : List Line
-  pub records : List Record
+  pub records : List EditRecord
   pub goes-on : read w n (take k ls ++ after) st ≡ good records
   pub ends-here : k < length ls → (tail : List Line) → read w n (take (suc k) ls ++ tail) st ≡ bad m
 
 bad-inj : (n m : ℕ) → bad n ≡ bad m → n ≡ m
 bad-inj n m e = cc
 
-not-good : (rs : List Record) (m : ℕ) {A : Type 0} → good rs ≡ bad m → A
+not-good : (rs : List EditRecord) (m : ℕ) {A : Type 0} → good rs ≡ bad m → A
 not-good rs m e = absurd (let z : _≡_ {A = ℕ} 0 1 = cc in omega arith)
 
-more-bad : (r : Record) (x : Read) (m : ℕ) → more r x ≡ bad m → x ≡ bad m
+more-bad : (r : EditRecord) (x : Read) (m : ℕ) → more r x ≡ bad m → x ≡ bad m
 more-bad r (bad n) m e = e
 more-bad r (good rs) m e = not-good (r ∷ rs) m e
 
@@ -99,7 +99,7 @@ there-on w n l ls st t m e f = record {
   ends-here = λ h tail. rw e (f .ends-here (omega arith) tail);
 }
 
-there-done : (w n : ℕ) (l : Bytes) (ls : List Line) (st : Stage) (r : Record) (m : ℕ) → step w st l ≡ done r → First w (suc n) ls atOp m → First w n (whole l ∷ ls) st m
+there-done : (w n : ℕ) (l : Bytes) (ls : List Line) (st : Stage) (r : EditRecord) (m : ℕ) → step w st l ≡ done r → First w (suc n) ls atOp m → First w n (whole l ∷ ls) st m
 unfolding read
 there-done w n l ls st r m e f = record {
   k = suc (f .k);

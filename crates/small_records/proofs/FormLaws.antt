@@ -12,7 +12,7 @@ use Rattle.model.specs.Bytes.{Bytes}
 use Rattle.model.specs.Tree.{Mode}
 use Rattle.model.proofs.Basics.{and-left, and-right}
 use Rattle.small_records.specs.Hex.{hexed, bytesOf}
-use Rattle.small_records.specs.Records.{lines, Verb, Op, put, goodId, Record, atOp, Read, bad, good, more, read, reading, Form, badLine, records, formOf}
+use Rattle.small_records.specs.Records.{lines, Verb, Op, put, goodId, EditRecord, atOp, Read, bad, good, more, read, reading, Form, badLine, records, formOf}
 use Rattle.small_records.specs.Places.{Part, textAt, past, Told, opAt, pathAt, kindAt, idAt, Found, recordFound, Next, nothing, broken, found, orBroken, nextAt}
 use Rattle.small_records.proofs.NextLaws.{at-end, path-parts, id-parts, op-inside, path-inside, kind-inside, id-inside}
 use Rattle.small_records.proofs.TextLaws.{length-bytes}
@@ -91,7 +91,7 @@ plus-none : (f : Form) → f ≡ plus 0 f
 plus-none (badLine n) = refl
 plus-none (records m) = ap records (omega arith)
 
-plus-more : (c : ℕ) (r : Record) (x : Read) → plus c (formOf (more r x)) ≡ plus (c + 1) (formOf x)
+plus-more : (c : ℕ) (r : EditRecord) (x : Read) → plus c (formOf (more r x)) ≡ plus (c + 1) (formOf x)
 plus-more c r (bad n) = refl
 plus-more c r (good rs) = ap records (omega arith)
 
@@ -138,11 +138,11 @@ module _ {w : ℕ} {s : Bytes} {at count : ℕ} (here : Forming w s at count) wh
     form-end h = form-none (sym (at-end w s at h))
 
 -- Going over a good input record by record: the records from a place on
-pub record Left (w : ℕ) (s : Bytes) (at : ℕ) (rs : List Record) : Type 0 where
+pub record Left (w : ℕ) (s : Bytes) (at : ℕ) (rs : List EditRecord) : Type 0 where
   pub line : ℕ
   pub rest : read w line (lines (drop at s)) atOp ≡ good rs
 
-pub left-begin : (w : ℕ) (s : Bytes) (rs : List Record) → reading w s ≡ good rs → Left w s 0 rs
+pub left-begin : (w : ℕ) (s : Bytes) (rs : List EditRecord) → reading w s ≡ good rs → Left w s 0 rs
 unfolding reading
 left-begin w s rs e = go (leb (length s) 65536) e
   where
@@ -150,15 +150,15 @@ left-begin w s rs e = go (leb (length s) 65536) e
     go true q = record { line = 1; rest = q }
     go false q = absurd (let z : _≡_ {A = ℕ} 0 1 = cc in omega arith)
 
-more-inv : (r : Record) (x : Read) (rs : List Record) → more r x ≡ good rs → (qs : List Record) × (x ≡ good qs) × (rs ≡ r ∷ qs)
+more-inv : (r : EditRecord) (x : Read) (rs : List EditRecord) → more r x ≡ good rs → (qs : List EditRecord) × (x ≡ good qs) × (rs ≡ r ∷ qs)
 more-inv r (bad n) rs e = absurd (let z : _≡_ {A = ℕ} 0 1 = cc in omega arith)
 more-inv r (good qs) rs e = (qs, refl, cc)
 
-module _ {w : ℕ} {s : Bytes} {at : ℕ} {rs : List Record} (left : Left w s at rs) where
+module _ {w : ℕ} {s : Bytes} {at : ℕ} {rs : List EditRecord} (left : Left w s at rs) where
   reads : {x : Next} → nextAt w s at ≡ x → follow w (left .line) s x ≡ good rs
   reads e = sym (next-reads w (left .line) s at ∙ ap (follow w (left .line) s) e) ∙ left .rest
 
-  pub left-more : {f : Found} → nextAt w s at ≡ found f → (qs : List Record) × (rs ≡ recordFound s f ∷ qs) × Left w s (f .next) qs
+  pub left-more : {f : Found} → nextAt w s at ≡ found f → (qs : List EditRecord) × (rs ≡ recordFound s f ∷ qs) × Left w s (f .next) qs
   left-more {f} e =
       let (qs, x, y) = more-inv (recordFound s f) (read w (left .line + 4) (lines (drop (f .next) s)) atOp) rs (reads e) in
       (qs, y, record { line = left .line + 4; rest = x })

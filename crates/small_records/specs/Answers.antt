@@ -58,7 +58,7 @@ kindLine (kind-line.Line o n) = some (record { what = asOp o; next = n })
 kindLine kind-line.Broken = none
 
 abbrev pub nextRead : Next → def-places.Next
-nextRead (next.Record o p pn i n after) = def-places.found (record { op = asOp o; path = record { at = p; len = pn }; id = record { at = i; len = n }; next = after })
+nextRead (next.EditRecord o p pn i n after) = def-places.found (record { op = asOp o; path = record { at = p; len = pn }; id = record { at = i; len = n }; next = after })
 nextRead (next.Bad k) = def-places.broken k
 nextRead next.End = def-places.nothing
 

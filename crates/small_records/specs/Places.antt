@@ -7,7 +7,7 @@ use lib.ListN.{length, take, drop}
 use Rattle.model.specs.Bytes.{Bytes}
 use Rattle.names.specs.Places.{indexOf}
 use Rattle.small_records.specs.Hex.{hexed, bytesOf}
-use Rattle.small_records.specs.Records.{starts, opKey, pathKey, kindKey, idKey, Verb, verbOf, Op, opOf, goodId, editOf, Record}
+use Rattle.small_records.specs.Records.{starts, opKey, pathKey, kindKey, idKey, Verb, verbOf, Op, opOf, goodId, editOf, EditRecord}
 
 -- a part of the input, the bytes there, and the place after the newline that follows it
 pub record Part : Type 0 where
@@ -64,7 +64,7 @@ pub record Found : Type 0 where
   pub next : ℕ
 
 -- the record of the definition
-abbrev pub recordFound : Bytes → Found → Record
+abbrev pub recordFound : Bytes → Found → EditRecord
 recordFound s f = record { edit = editOf (f .op) (textAt s (f .id)); path = bytesOf (textAt s (f .path)) }
 
 -- What stands at a place: nothing, a record, or lines that break the form, at the first, second, third or fourth line (0 to 3)

@@ -85,7 +85,7 @@ editOf (put m) v = upsert m (bytesOf v)
 editOf (drops k) v = remove k
 
 -- an edit and its path; a path may have no bytes
-pub record Record : Type 0 where
+pub record EditRecord : Type 0 where
   pub edit : Edit
   pub path : Bytes
 
@@ -99,7 +99,7 @@ pub data Stage : Type 0 where
 -- what a line makes of it; a line that breaks the form does so at its own number: the kind's, where the kind does not go with the op
 pub data Step : Type 0 where
   on : Stage → Step
-  done : Record → Step
+  done : EditRecord → Step
   wrong : Step
 
 abbrev pub orWrong : {A : Type 0} → Option A → (A → Step) → Step
@@ -115,9 +115,9 @@ step w (atId k p) l = orWrong (said idKey l) (λ v. cond (goodId w k v) (done (r
 -- The answer for an input: the first line that breaks the form, or the records
 pub data Read : Type 0 where
   bad : ℕ → Read
-  good : List Record → Read
+  good : List EditRecord → Read
 
-abbrev pub more : Record → Read → Read
+abbrev pub more : EditRecord → Read → Read
 more r (bad n) = bad n
 more r (good rs) = good (r ∷ rs)
 

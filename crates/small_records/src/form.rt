@@ -21,7 +21,7 @@ pub fn first_bad(input: &[u8], width: usize) -> Form
     let mut count = 0;
     while at < input.len() {
         match crate::record::next_record(input, at, width) {
-            Next::Record {
+            Next::EditRecord {
                 op: _,
                 path_at: _,
                 path_len: _,

@@ -45,7 +45,7 @@ pub enum KindLine {
 // What stands at a place: a record, with the digits of its path and of its id, and the place after it; lines that break the form, the first of them by
 // its number in the record, from 0; or the end.
 pub enum Next {
-    Record {
+    EditRecord {
         op: Op,
         path_at: usize,
         path_len: usize,
@@ -207,7 +207,7 @@ pub fn next_record(input: &[u8], at: usize, width: usize) -> Next
     else {
         return Next::Bad(3);
     };
-    Next::Record {
+    Next::EditRecord {
         op,
         path_at,
         path_len,

@@ -21,7 +21,7 @@ use Rattle.model.specs.Script.{noTable}
 use Rattle.model.specs.Valid.{valid}
 use Rattle.model.proofs.Theorems.{edit-valid, begin-valid, new-valid}
 use Rattle.small_records.specs.Hex.{hexed, bytesOf}
-use Rattle.small_records.specs.Records.{Line, whole, cut, ontoLine, lines, opKey, pathKey, kindKey, idKey, starts, said, Verb, verbOf, Op, put, drops, opOf, goodId, editOf, Record, Stage, atOp, atPath, atKind, atId, Step, on, done, wrong, orWrong, step, Read, bad, good, more, ended, stepped, read, reading, formOf}
+use Rattle.small_records.specs.Records.{Line, whole, cut, ontoLine, lines, opKey, pathKey, kindKey, idKey, starts, said, Verb, verbOf, Op, put, drops, opOf, goodId, editOf, EditRecord, Stage, atOp, atPath, atKind, atId, Step, on, done, wrong, orWrong, step, Read, bad, good, more, ended, stepped, read, reading, formOf}
 use Rattle.small_records.specs.Texts.{decimalFrom, decimal, lineOf}
 use Rattle.small_records.specs.declared.text.Put.{Put}
 use Rattle.small_records.specs.declared.text.Put.the-variants.{At, Refused}
@@ -106,41 +106,41 @@ step-steps (atKind o p) l = said-steps (atKind o p) l kindKey (λ v. orWrong (op
 step-steps (atId k p) l =
     said-steps (atId k p) l idKey (λ v. cond (goodId 20 k v) (done (record { edit = editOf k v; path = p })) wrong) (λ v h. id-steps k p l v h (goodId 20 k v) refl) (said idKey l) refl
 
-bad-good : {A : Type 0} (n : ℕ) (rs : List Record) → bad n ≡ good rs → A
+bad-good : {A : Type 0} (n : ℕ) (rs : List EditRecord) → bad n ≡ good rs → A
 bad-good n rs e = absurd (let z : _≡_ {A = ℕ} 0 1 = cc in omega arith)
 
 -- so many records at most, each with a good edit
-pub record Few (m : ℕ) (rs : List Record) : Type 0 where
+pub record Few (m : ℕ) (rs : List EditRecord) : Type 0 where
   pub few : 20 * length rs ≤ m
   pub edits : All (λ r. GoodEdit sha1 (r .edit)) rs
 
-few-none : (m : ℕ) (rs : List Record) → good [] ≡ good rs → Few m rs
+few-none : (m : ℕ) (rs : List EditRecord) → good [] ≡ good rs → Few m rs
 few-none m [] e = record { few = omega arith; edits = tt }
-few-none m (r ∷ rs) e = absurd (let q : _≡_ {A = List Record} [] (r ∷ rs) = cc in let z : _≡_ {A = ℕ} 0 1 = cc in omega arith)
+few-none m (r ∷ rs) e = absurd (let q : _≡_ {A = List EditRecord} [] (r ∷ rs) = cc in let z : _≡_ {A = ℕ} 0 1 = cc in omega arith)
 
-ended-few : (m n : ℕ) (st : Stage) (rs : List Record) → ended n st ≡ good rs → Few m rs
+ended-few : (m n : ℕ) (st : Stage) (rs : List EditRecord) → ended n st ≡ good rs → Few m rs
 ended-few m n atOp rs e = few-none m rs e
 ended-few m n (atPath o) rs e = bad-good n rs e
 ended-few m n (atKind o p) rs e = bad-good n rs e
 ended-few m n (atId k p) rs e = bad-good n rs e
 
-more-few : (m : ℕ) (r : Record) → GoodEdit sha1 (r .edit) → (x : Read) → ((qs : List Record) → x ≡ good qs → Few m qs) → (rs : List Record) → more r x ≡ good rs → Few (20 + m) rs
+more-few : (m : ℕ) (r : EditRecord) → GoodEdit sha1 (r .edit) → (x : Read) → ((qs : List EditRecord) → x ≡ good qs → Few m qs) → (rs : List EditRecord) → more r x ≡ good rs → Few (20 + m) rs
 more-few m r g (bad n) ih rs e = bad-good n rs e
 more-few m r g (good qs) ih rs e =
     let f = ih qs refl in
-    let q : _≡_ {A = List Record} (r ∷ qs) rs = cc in
-    subst (λ (z : List Record). Few (20 + m) z) q (record { few = omega (arith, f .few); edits = (g, f .edits) })
+    let q : _≡_ {A = List EditRecord} (r ∷ qs) rs = cc in
+    subst (λ (z : List EditRecord). Few (20 + m) z) q (record { few = omega (arith, f .few); edits = (g, f .edits) })
 
-few-most : (m n : ℕ) (rs : List Record) → m ≤ n → Few m rs → Few n rs
+few-most : (m n : ℕ) (rs : List EditRecord) → m ≤ n → Few m rs → Few n rs
 few-most m n rs h f = record { few = omega (arith, f .few); edits = f .edits }
 
-read-few : (ls : List Line) (n : ℕ) (st : Stage) (rs : List Record) → read 20 n ls st ≡ good rs → Few (before st + bytesIn ls) rs
+read-few : (ls : List Line) (n : ℕ) (st : Stage) (rs : List EditRecord) → read 20 n ls st ≡ good rs → Few (before st + bytesIn ls) rs
 unfolding read
 read-few [] n st rs e = ended-few (before st + 0) n st rs e
 read-few (cut ∷ ls) n st rs e = bad-good n rs e
 read-few (whole l ∷ ls) n st rs e = go (λ s qs q. read-few ls (suc n) s qs q) (step 20 st l) (step-steps st l) e
   where
-    go : ((s : Stage) (qs : List Record) → read 20 (suc n) ls s ≡ good qs → Few (before s + bytesIn ls) qs) → (x : Step) → Steps st l x → stepped n x (λ s. read 20 (suc n) ls s) ≡ good rs →
+    go : ((s : Stage) (qs : List EditRecord) → read 20 (suc n) ls s ≡ good qs → Few (before s + bytesIn ls) qs) → (x : Step) → Steps st l x → stepped n x (λ s. read 20 (suc n) ls s) ≡ good rs →
         Few (before st + (suc (length l) + bytesIn ls)) rs
     go ih (on s) h e = few-most (before s + bytesIn ls) (before st + (suc (length l) + bytesIn ls)) rs (omega (arith, h)) (ih s rs e)
     go ih (done r) h e =
@@ -179,7 +179,7 @@ refusal-few k c = go (eqb c 0)
           decimal-few c,
         )
 
-records-few : (rs : List Record) (k : ℕ) (E : Editor) → length (recordLines k rs E) ≤ 52 * length rs
+records-few : (rs : List EditRecord) (k : ℕ) (E : Editor) → length (recordLines k rs E) ≤ 52 * length rs
 unfolding recordLines
 records-few [] k E = omega arith
 records-few (r ∷ rs) k E =
@@ -191,7 +191,7 @@ records-few (r ∷ rs) k E =
     )
 
 -- The editor after them is valid, so its write fits
-after-valid : (rs : List Record) (E : Editor) → All (λ r. GoodEdit sha1 (r .edit)) rs → valid sha1 E ≡ true → valid sha1 (afterRecords rs E) ≡ true
+after-valid : (rs : List EditRecord) (E : Editor) → All (λ r. GoodEdit sha1 (r .edit)) rs → valid sha1 E ≡ true → valid sha1 (afterRecords rs E) ≡ true
 unfolding afterRecords
 after-valid [] E g v = v
 after-valid (r ∷ rs) E g v = after-valid rs ((madeBy r E) .editor) (g .1) (edit-valid sha1 noTable (r .edit) [] (r .path) E (g .0) v)

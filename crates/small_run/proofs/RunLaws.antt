@@ -14,7 +14,7 @@ use Rattle.model.specs.Raw.{ended as atEnd, readTree}
 use Rattle.model.specs.Tree.{wellFormed}
 use Rattle.editor.specs.Lent.{Lent, Long, Good, viewed}
 use Rattle.editor.specs.Roots.{Makes}
-use Rattle.small_records.specs.Records.{Record, Read, bad, good as goodInput, lines, atOp, read, reading, badLine, records, formOf}
+use Rattle.small_records.specs.Records.{EditRecord, Read, bad, good as goodInput, lines, atOp, read, reading, badLine, records, formOf}
 use Rattle.small_records.specs.Texts.{decimal, lineOf}
 use Rattle.small_records.specs.declared.text.Put.{Put}
 use Rattle.small_run.specs.Lesson.{badKey, recordLines, afterRecords, saved, outputOf, output}
@@ -41,7 +41,7 @@ made-empty {s} {code} {q} M l = go (eqb code 13) refl
         (r .good (ap (λ (a : Answer). a .code) x), ap (λ (a : Answer). a .editor) x)
 
 -- the output of an input, by its form
-pub output-good : (input : Bytes) (rs : List Record) → reading 20 input ≡ goodInput rs → (E : Editor) → E ≡ rootOnly [] → recordLines 1 rs E ++ saved (afterRecords rs E) ≡ output input
+pub output-good : (input : Bytes) (rs : List EditRecord) → reading 20 input ≡ goodInput rs → (E : Editor) → E ≡ rootOnly [] → recordLines 1 rs E ++ saved (afterRecords rs E) ≡ output input
 unfolding output
 output-good input rs e E x = ap (λ (z : Editor). recordLines 1 rs z ++ saved (afterRecords rs z)) x ∙ sym (ap outputOf e)
 
@@ -53,7 +53,7 @@ output-bad input n e = go (reading 20 input) e
     go (bad m) q = let z : n ≡ m = cc in ap (λ (j : ℕ). lineOf badKey (decimal j)) z
     go (goodInput rs) q = absurd (let z : _≡_ {A = ℕ} 0 1 = cc in omega arith)
 
-good-reading : (x : Read) (m : ℕ) → records m ≡ formOf x → (rs : List Record) × (x ≡ goodInput rs)
+good-reading : (x : Read) (m : ℕ) → records m ≡ formOf x → (rs : List EditRecord) × (x ≡ goodInput rs)
 good-reading (bad n) m q = absurd (let z : _≡_ {A = ℕ} 0 1 = cc in omega arith)
 good-reading (goodInput rs) m q = (rs, refl)
 
@@ -65,5 +65,5 @@ short-reading input m e = go (leb (length input) 65536) refl e
     go true x q = leb-true (length input) 65536 x
     go false x q = absurd (let z : _≡_ {A = ℕ} 0 1 = cc in omega arith)
 
-pub good-form : (input : Bytes) (m : ℕ) → records m ≡ formOf (reading 20 input) → (length input ≤ 65536) × ((rs : List Record) × (reading 20 input ≡ goodInput rs))
+pub good-form : (input : Bytes) (m : ℕ) → records m ≡ formOf (reading 20 input) → (length input ≤ 65536) × ((rs : List EditRecord) × (reading 20 input ≡ goodInput rs))
 good-form input m e = (short-reading input m e, good-reading (reading 20 input) m e)

@@ -14,7 +14,7 @@ use Rattle.model.specs.Write.{begun, requested, answered}
 use Rattle.model.specs.Script.{noTable}
 use Rattle.editor_terms.specs.Ids.{wordBytes}
 use Rattle.small_records.specs.Hex.{hexOf}
-use Rattle.small_records.specs.Records.{Record, Read, bad, good, reading}
+use Rattle.small_records.specs.Records.{EditRecord, Read, bad, good, reading}
 use Rattle.small_records.specs.Texts.{decimal, lineOf}
 
 -- `bad`, `edit`, `code`, `tree`, `raw`, `root`
@@ -37,18 +37,18 @@ abbrev pub rootKey : Bytes
 rootKey = 114 ∷ 111 ∷ 111 ∷ 116 ∷ []
 
 -- the edit of a record, with an empty table, and the two lines of its refusal, if it is the k-th
-abbrev pub madeBy : Record → Editor → Answer
+abbrev pub madeBy : EditRecord → Editor → Answer
 madeBy r E = edited sha1 noTable (r .edit) false [] (r .path) E
 
 unfoldable pub refusal : ℕ → ℕ → Bytes
 refusal k code = cond (eqb code 0) [] (lineOf editKey (decimal k) ++ lineOf codeKey (decimal code))
 
 -- the records from the k-th on: their lines, and the editor after them
-unfoldable pub recordLines : ℕ → List Record → Editor → Bytes
+unfoldable pub recordLines : ℕ → List EditRecord → Editor → Bytes
 recordLines k [] E = []
 recordLines k (r ∷ rs) E = refusal k ((madeBy r E) .code) ++ recordLines (k + 1) rs ((madeBy r E) .editor)
 
-unfoldable pub afterRecords : List Record → Editor → Editor
+unfoldable pub afterRecords : List EditRecord → Editor → Editor
 afterRecords [] E = E
 afterRecords (r ∷ rs) E = afterRecords rs ((madeBy r E) .editor)
 

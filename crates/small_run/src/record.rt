@@ -14,7 +14,7 @@ ghost use Rattle.editor.specs.Lent.{lent, Good, viewed};
 ghost use Rattle.small_records.specs.Answers.{asOp};
 ghost use Rattle.small_records.specs.Hex.{hexed, bytesOf};
 ghost use Rattle.small_records.specs.Places.{Found, found, nextAt, recordFound};
-ghost use Rattle.small_records.specs.Records.{Record, editOf, goodId, good as goodInput, reading};
+ghost use Rattle.small_records.specs.Records.{EditRecord, editOf, goodId, good as goodInput, reading};
 ghost use Rattle.small_records.specs.declared.text.Put.the-variants.{At};
 ghost use Rattle.small_run.specs.Lesson.{madeBy, refusal, recordLines, afterRecords};
 ghost use Rattle.small_run.specs.Puts.{Puts, Leaves};
@@ -26,18 +26,18 @@ use editor_walk::apply::Answer;
 use small_records::record::Next;
 use small_records::record::Op;
 use small_records::text::Put;
-use store_slots::Editor;
+use store_slots::Record;
 
 // What a step leaves: the record of the editor, and the place after what was written.
 pub struct Step {
-    pub ed: Editor,
+    pub ed: Record,
     pub put: Put,
 }
 
 // A step, and the place of the record that follows.
 pub struct Onward {
     pub at: usize,
-    pub ed: Editor,
+    pub ed: Record,
     pub put: Put,
 }
 
@@ -65,7 +65,7 @@ fn edit_of(op: Op, digits: &[u8]) -> Edit
 
 // Makes an edit at the path that digits say, with an empty table.
 fn apply(
-    ed: Editor,
+    ed: Record,
     plens: &mut [u64],
     paths: &mut [u8],
     tlens: &mut [u64],
@@ -117,7 +117,7 @@ fn report(out: &mut [u8], to: usize, k: u64, code: Code) -> Put
 
 // Makes the edit of a record, the k-th, and tells its refusal.
 fn one(
-    ed: Editor,
+    ed: Record,
     plens: &mut [u64],
     paths: &mut [u8],
     tlens: &mut [u64],
@@ -143,7 +143,7 @@ fn one(
 
 // The record at a place of the input, the k-th.
 fn turn(
-    ed: Editor,
+    ed: Record,
     plens: &mut [u64],
     paths: &mut [u8],
     tlens: &mut [u64],
@@ -163,7 +163,7 @@ fn turn(
         → Puts (now (out .entry)) to (refusal k ((madeBy (recordFound (now (input .entry)) f) (viewed (lent ed (now (plens .entry)) (now (paths .entry)) (now (tlens .entry)) (now (trees .entry)) (now (order .entry))))) .code)) (r .put) (now (out .exit))) ⌝ }
 {
     match small_records::record::next_record(input, at, 20) {
-        Next::Record {
+        Next::EditRecord {
             op,
             path_at,
             path_len,
@@ -209,7 +209,7 @@ fn turn(
 
 // All records of a good input.
 pub fn all(
-    ed: Editor,
+    ed: Record,
     plens: &mut [u64],
     paths: &mut [u8],
     tlens: &mut [u64],
@@ -218,10 +218,10 @@ pub fn all(
     input: &[u8],
     out: &mut [u8],
 ) -> Step
-    requires { ⌜ Good (lent ed (now plens) (now paths) (now tlens) (now trees) (now order)) × (length (now input) ≤ 65536) × ((rs : List Record) × (reading 20 (now input) ≡ goodInput rs)) ⌝ }
-    ensures editor { λ r. ⌜ ((rs : List Record) (n : ℕ) → reading 20 (now (input .entry)) ≡ goodInput rs → r .put ≡ At n
+    requires { ⌜ Good (lent ed (now plens) (now paths) (now tlens) (now trees) (now order)) × (length (now input) ≤ 65536) × ((rs : List EditRecord) × (reading 20 (now input) ≡ goodInput rs)) ⌝ }
+    ensures editor { λ r. ⌜ ((rs : List EditRecord) (n : ℕ) → reading 20 (now (input .entry)) ≡ goodInput rs → r .put ≡ At n
         → Good (lent (r .ed) (now (plens .exit)) (now (paths .exit)) (now (tlens .exit)) (now (trees .exit)) (now (order .entry))) × (viewed (lent (r .ed) (now (plens .exit)) (now (paths .exit)) (now (tlens .exit)) (now (trees .exit)) (now (order .entry))) ≡ afterRecords rs (viewed (lent ed (now (plens .entry)) (now (paths .entry)) (now (tlens .entry)) (now (trees .entry)) (now (order .entry)))))) ⌝ }
-    ensures put { λ r. ⌜ ((rs : List Record) → reading 20 (now (input .entry)) ≡ goodInput rs → Puts (now (out .entry)) 0 (recordLines 1 rs (viewed (lent ed (now (plens .entry)) (now (paths .entry)) (now (tlens .entry)) (now (trees .entry)) (now (order .entry))))) (r .put) (now (out .exit))) ⌝ }
+    ensures put { λ r. ⌜ ((rs : List EditRecord) → reading 20 (now (input .entry)) ≡ goodInput rs → Puts (now (out .entry)) 0 (recordLines 1 rs (viewed (lent ed (now (plens .entry)) (now (paths .entry)) (now (tlens .entry)) (now (trees .entry)) (now (order .entry))))) (r .put) (now (out .exit))) ⌝ }
 {
     let mut now = ed;
     let mut at = 0;

@@ -4,17 +4,17 @@ ghost use mathlib.Core.List.{List, _++_};
 ghost use Prim.Native.Nat.{ℕ, _≤_};
 ghost use lib.ListN.{length};
 ghost use Rattle.editor.specs.Lent.{lent, Good, viewed};
-ghost use Rattle.small_records.specs.Records.{Record, good as goodInput, reading};
+ghost use Rattle.small_records.specs.Records.{EditRecord, good as goodInput, reading};
 ghost use Rattle.small_records.specs.declared.text.Put.the-variants.{At};
 ghost use Rattle.small_run.specs.Lesson.{recordLines, afterRecords, saved, output};
 ghost use Rattle.small_run.specs.Puts.{Puts};
 use small_records::form::Form;
 use small_records::text::Put;
-use store_slots::Editor;
+use store_slots::Record;
 
 // Over a store that holds an empty root: the records, then the write.
 fn over(
-    ed: Editor,
+    ed: Record,
     plens: &mut [u64],
     paths: &mut [u8],
     tlens: &mut [u64],
@@ -23,8 +23,8 @@ fn over(
     input: &[u8],
     out: &mut [u8],
 ) -> Put
-    requires { ⌜ Good (lent ed (now plens) (now paths) (now tlens) (now trees) (now order)) × (length (now input) ≤ 65536) × ((rs : List Record) × (reading 20 (now input) ≡ goodInput rs)) ⌝ }
-    ensures { λ r. ⌜ ((rs : List Record) → reading 20 (now (input .entry)) ≡ goodInput rs
+    requires { ⌜ Good (lent ed (now plens) (now paths) (now tlens) (now trees) (now order)) × (length (now input) ≤ 65536) × ((rs : List EditRecord) × (reading 20 (now input) ≡ goodInput rs)) ⌝ }
+    ensures { λ r. ⌜ ((rs : List EditRecord) → reading 20 (now (input .entry)) ≡ goodInput rs
         → Puts (now (out .entry)) 0 (recordLines 1 rs (viewed (lent ed (now (plens .entry)) (now (paths .entry)) (now (tlens .entry)) (now (trees .entry)) (now (order .entry)))) ++ saved (afterRecords rs (viewed (lent ed (now (plens .entry)) (now (paths .entry)) (now (tlens .entry)) (now (trees .entry)) (now (order .entry)))))) r (now (out .exit))) ⌝ }
 {
     let s = crate::record::all(ed, plens, paths, tlens, trees, order, input, out);
@@ -38,7 +38,7 @@ fn over(
 
 // A good input, from an empty root.
 fn good(input: &[u8], out: &mut [u8]) -> Put
-    requires { ⌜ (length (now input) ≤ 65536) × ((rs : List Record) × (reading 20 (now input) ≡ goodInput rs)) ⌝ }
+    requires { ⌜ (length (now input) ≤ 65536) × ((rs : List EditRecord) × (reading 20 (now input) ≡ goodInput rs)) ⌝ }
     ensures { λ r. ⌜ Puts (now (out .entry)) 0 (output (now (input .entry))) r (now (out .exit)) ⌝ }
 {
     let mut plens = [0u64; 64];
@@ -46,7 +46,7 @@ fn good(input: &[u8], out: &mut [u8]) -> Put
     let mut tlens = [0u64; 64];
     let mut trees = [0u8; 38912];
     let mut order = [0u64; 64];
-    let none = Editor {
+    let none = Record {
         free: 0,
         hidden: 0,
         paths: 0,

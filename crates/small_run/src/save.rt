@@ -13,7 +13,7 @@ ghost use Rattle.small_run.specs.Puts.{Puts, Leaves};
 use crate::record::Step;
 use editor_terms::id::Id;
 use small_records::text::Put;
-use store_slots::Editor;
+use store_slots::Record;
 
 // A count as an id.
 fn counted(k: u32) -> Id
@@ -30,7 +30,7 @@ fn counted(k: u32) -> Id
 
 // Writes the two lines of the open request: its path and its raw tree.
 fn put_request(
-    ed: Editor,
+    ed: Record,
     plens: &[u64],
     paths: &[u8],
     tlens: &[u64],
@@ -58,7 +58,7 @@ fn put_request(
 
 // Tells the open request, and answers it with its number.
 fn turn(
-    ed: Editor,
+    ed: Record,
     plens: &mut [u64],
     paths: &mut [u8],
     tlens: &mut [u64],
@@ -82,7 +82,7 @@ fn turn(
 
 // All requests of an open write, and the root's id, which is the last one's number.
 fn requests(
-    ed: Editor,
+    ed: Record,
     plens: &mut [u64],
     paths: &mut [u8],
     tlens: &mut [u64],
@@ -119,7 +119,7 @@ fn requests(
 
 // Writes from the root.
 pub fn saved(
-    ed: Editor,
+    ed: Record,
     plens: &mut [u64],
     paths: &mut [u8],
     tlens: &mut [u64],

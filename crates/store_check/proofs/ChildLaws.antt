@@ -27,7 +27,7 @@ use Rattle.store_runs.specs.Runs.{total, runOf}
 use Rattle.store_runs.proofs.FindLaws.{cut-at}
 use Rattle.store_runs.proofs.Laws.{total-more, total-within}
 use Rattle.store_slots.specs.View.{Used, pathOf, treeOf}
-use Rattle.store_slots.specs.declared.Editor.{Editor}
+use Rattle.store_slots.specs.declared.Record.{Record}
 use Rattle.store_slots.proofs.Calls.{searched-run, tree-run}
 use Rattle.store_check.specs.Parents.{Begins, Begun, Read, Starts, Named, Child, Table, Children, Parented, Hanging}
 use Rattle.store_check.specs.Written.{Taking, asideBy}
@@ -161,7 +161,7 @@ module _ {q : Bytes} {w : ℕ} {b : Bytes} {plens paths order : List ℕ} {lo hi
 
 -- ---- all stacked trees
 
-module _ {w : ℕ} {r : Editor} {plens paths tlens trees order : List ℕ} (T : Taking w r plens paths tlens trees order) where
+module _ {w : ℕ} {r : Record} {plens paths tlens trees order : List ℕ} (T : Taking w r plens paths tlens trees order) where
   pub all-begun : {begins : List ℕ} → Begins plens (length plens) begins → Begun plens paths begins
   all-begun {begins} B =
       let L = T .lays .laid in

@@ -20,7 +20,7 @@ use Rattle.store_runs.proofs.MoveLaws.{length-part, part-none}
 use Rattle.store_runs.proofs.Laws.{length-cut, total-within}
 use Rattle.store_runs.proofs.FindLaws.{cut-at}
 use Rattle.store_slots.specs.View.{slots, viewOf, treeRoom, Laid}
-use Rattle.store_slots.specs.declared.Editor.{Editor}
+use Rattle.store_slots.specs.declared.Record.{Record}
 use Rattle.store_slots.proofs.Gather.{gather-entries, gather-names}
 use Rattle.store_slots.proofs.Counts.{slots-is, paths-is}
 use Rattle.store_check.specs.Laid.{Lays, Lengths, goodPath, Paths, Trees}
@@ -49,7 +49,7 @@ within c t e n p =
     join : (x y z u : Bool) → x ≡ true → y ≡ true → z ≡ true → u ≡ true → (x && y && z && u) ≡ true
     join x y z u e f g h = rw (e, f, g, h)
 
-module _ (w : ℕ) (r : Editor) (plens paths tlens trees : List ℕ) where
+module _ (w : ℕ) (r : Record) (plens paths tlens trees : List ℕ) where
   abbrev ds : List ℕ
   ds = digits 64 (r .free)
 

@@ -33,7 +33,7 @@ use Rattle.store_runs.specs.declared.runs.Found.{Found}
 use Rattle.store_runs.specs.declared.runs.Found.the-variants.{At, Nothing}
 use Rattle.store_runs.proofs.DigitLaws.{length-digits}
 use Rattle.store_slots.specs.View.{slots, gather, viewOf, SlotIs, Used, pathOf, treeOf, heldAt, allDifferent, Opened}
-use Rattle.store_slots.specs.declared.Editor.{Editor}
+use Rattle.store_slots.specs.declared.Record.{Record}
 use Rattle.store_slots.proofs.Gather.{gather-mid, distinct-before}
 use Rattle.store_slots.proofs.Slots.{front, back, split-used}
 use Rattle.store_slots.proofs.Where.{slot-is}
@@ -117,7 +117,7 @@ both-or x true = refl
 both-or true false = refl
 both-or false false = refl
 
-module _ (w : ℕ) (r : Editor) (plens paths tlens trees : List ℕ) (S : Lays w r plens paths tlens trees) where
+module _ (w : ℕ) (r : Record) (plens paths tlens trees : List ℕ) (S : Lays w r plens paths tlens trees) where
   abbrev D : List ℕ
   D = digits 64 (r .free)
 
@@ -234,7 +234,7 @@ has-own (x ∷ l) (suc i) h = go (has-own l i (omega arith)) (eqb x (getD l i 0)
     go ih true t = has-here (getD l i 0) x l (eqb-true x (getD l i 0) t)
     go ih false t = has-past (getD l i 0) x l (eqb-false x (getD l i 0) t) ∙ ih
 
-module _ {r : Editor} {order : List ℕ} (o : Opened r order) where
+module _ {r : Record} {order : List ℕ} (o : Opened r order) where
   pub aside-used : (n : ℕ) → n ≤ r .aside → All (Used r) (take n order)
   aside-used n h = subst (All (Used r)) (take-take n (r .aside) order h) (all-take (Used r) n (take (r .aside) order) (all-left (Used r) (take (r .aside) order) (drop (64 - r .stacked) order) (o .used .1)))
 

@@ -9,7 +9,7 @@ use Rattle.model.specs.Formats.{sha1}
 use Rattle.model.specs.Valid.{rootHeld, writeGood, valid}
 use Rattle.model.proofs.Basics.{and-left, and-right}
 use Rattle.store_slots.specs.View.{editorOf, treeRoom, Holds}
-use Rattle.store_slots.specs.declared.Editor.{Editor}
+use Rattle.store_slots.specs.declared.Record.{Record}
 use Rattle.store_check.specs.Decides.{Decides}
 use Rattle.store_check.specs.Laid.{Lays}
 use Rattle.store_check.specs.Stored.{Stored}
@@ -17,7 +17,7 @@ use Rattle.store_check.specs.Written.{Written}
 use Rattle.store_check.proofs.Deciding.{refuses, refused}
 use Rattle.store_check.proofs.Whole.{valid-parts, valid-good, valid-fits}
 
-module _ (F : Format) (r : Editor) (plens paths tlens trees order : List ℕ) where
+module _ (F : Format) (r : Record) (plens paths tlens trees order : List ℕ) where
   -- the parts give the whole
   whole : Lays (F .width) r plens paths tlens trees → Written (F .width) r plens paths tlens trees order → Holds F r plens paths tlens trees order
   whole l t =
@@ -70,7 +70,7 @@ pub sha1-room : treeRoom (sha1 .width) ≡ 38912
 sha1-room = ap treeRoom sha1-width
 
 -- the fronts of slices that are long enough
-pub stored-decides : (r : Editor) (plens paths tlens trees order : List ℕ) (b : Bool) → 64 ≤ length plens → 8192 ≤ length paths → 64 ≤ length tlens → 38912 ≤ length trees → 64 ≤ length order →
+pub stored-decides : (r : Record) (plens paths tlens trees order : List ℕ) (b : Bool) → 64 ≤ length plens → 8192 ≤ length paths → 64 ≤ length tlens → 38912 ≤ length trees → 64 ≤ length order →
     Decides (Holds sha1 r (take 64 plens) (take 8192 paths) (take 64 tlens) (take 38912 trees) (take 64 order)) b → Decides (Stored sha1 r plens paths tlens trees order) b
 stored-decides r plens paths tlens trees order b p q t s o d =
     record {

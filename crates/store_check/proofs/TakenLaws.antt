@@ -10,12 +10,12 @@ use Rattle.model.proofs.Basics.{and-left, and-right, all-map, no-way}
 use Rattle.store_runs.specs.Digits.{digits}
 use Rattle.store_runs.proofs.DigitLaws.{length-digits}
 use Rattle.store_slots.specs.View.{Used, takenOf, marked, Opened}
-use Rattle.store_slots.specs.declared.Editor.{Editor}
+use Rattle.store_slots.specs.declared.Record.{Record}
 use Rattle.store_check.specs.Written.{markable, Marks}
 use Rattle.store_check.specs.declared.written.Marked.{Marked}
 use Rattle.store_check.proofs.MarkLaws.{Clear, marked-append, markable-append, markable-clear, clear-markable, digits-tell}
 
-module _ (r : Editor) (order : List ℕ) (l : length order ≡ 64) where
+module _ (r : Record) (order : List ℕ) (l : length order ≡ 64) where
   abbrev D : List ℕ
   D = digits 64 (r .free)
 

@@ -21,7 +21,7 @@ use Rattle.store_runs.specs.Runs.{cut}
 use Rattle.store_runs.proofs.DigitLaws.{length-digits}
 use Rattle.store_runs.proofs.Laws.{length-cut}
 use Rattle.store_slots.specs.View.{slotsOf, slots, gather, viewOf, Laid, Used, heldAt, cachedOf, asideOf, stackedOf, writeOf, editorOf, takenOf, Opened, Ordered}
-use Rattle.store_slots.specs.declared.Editor.{Editor}
+use Rattle.store_slots.specs.declared.Record.{Record}
 use Rattle.store_slots.proofs.Gather.{gather-rising, total-gather, gather-entries, gather-names, gather-paths, gather-length}
 use Rattle.store_check.proofs.MarkLaws.{Clear, distinct-marked, total-marked}
 
@@ -35,7 +35,7 @@ fits-gather : (hs : List Held) → distinct (map at hs) ≡ true → fits (gathe
 unfolding fits
 fits-gather hs d = rw (gather-length hs d, gather-entries hs d, gather-names hs d, gather-paths hs d)
 
-module _ (w : ℕ) (r : Editor) (plens paths tlens trees : List ℕ) (L : Laid w r plens paths tlens trees) where
+module _ (w : ℕ) (r : Record) (plens paths tlens trees : List ℕ) (L : Laid w r plens paths tlens trees) where
   abbrev ps : List Bytes
   ps = cut plens paths
 

@@ -13,7 +13,7 @@ use Rattle.model.specs.Valid.{rootHeld, writeGood, takenGood}
 use Rattle.model.specs.Write.{bottom}
 use Rattle.model.proofs.Basics.{and-left, and-right, no-way}
 use Rattle.store_slots.specs.View.{pathOf, heldAt, cachedOf, asideOf, stackedOf, startOf, writeOf, Closed, Opened}
-use Rattle.store_slots.specs.declared.Editor.{Editor}
+use Rattle.store_slots.specs.declared.Record.{Record}
 use Rattle.store_check.specs.Decides.{Decides}
 use Rattle.store_check.specs.Written.{Written, startFrom, startSlot, startFine}
 use Rattle.store_check.proofs.ChainLaws.{taken-start, bottom-start}
@@ -21,7 +21,7 @@ use Rattle.store_check.proofs.MarkLaws.{and-assoc}
 use Rattle.store_check.proofs.ParentLaws.{aside-low}
 
 -- the start's slot is one
-pub start-low : {r : Editor} {order : List ℕ} → Opened r order → length order ≡ 64 → startSlot r order < 64
+pub start-low : {r : Record} {order : List ℕ} → Opened r order → length order ≡ 64 → startSlot r order < 64
 start-low {r} {order} o l = go (r .aside) refl
   where
     go : (n : ℕ) → r .aside ≡ n → startFrom n (r .asked) order < 64
@@ -31,7 +31,7 @@ start-low {r} {order} o l = go (r .aside) refl
 both : (x y : Bool) → x ≡ true → y ≡ true → (x && y) ≡ true
 both x y e f = rw e f
 
-module _ (w : ℕ) (r : Editor) (plens paths tlens trees order : List ℕ) where
+module _ (w : ℕ) (r : Record) (plens paths tlens trees order : List ℕ) where
   abbrev asked : Held
   asked = heldAt w plens paths tlens trees (r .asked)
 

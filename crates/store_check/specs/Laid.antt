@@ -13,10 +13,10 @@ use Rattle.names_compact.specs.Compact.{packedAll, unpack}
 use Rattle.store_runs.specs.Digits.{digits}
 use Rattle.store_runs.specs.Runs.{total, Sound}
 use Rattle.store_slots.specs.View.{Laid, slots, viewOf}
-use Rattle.store_slots.specs.declared.Editor.{Editor}
+use Rattle.store_slots.specs.declared.Record.{Record}
 
 -- the layout's rules, the limits, and good paths and trees
-pub record Lays (w : ℕ) (r : Editor) (plens paths tlens trees : List ℕ) : Type 0 where
+pub record Lays (w : ℕ) (r : Record) (plens paths tlens trees : List ℕ) : Type 0 where
   pub laid : Laid w r plens paths tlens trees
   pub fits : fits (viewOf w r plens paths tlens trees) ≡ true
   pub good : allGood w (slots w r plens paths tlens trees) ≡ true
@@ -26,7 +26,7 @@ abbrev pub Blank : ℕ → ℕ → ℕ → Type 0
 Blank d n m = (d ≡ 0 → ⊥) → (n ≡ 0) × (m ≡ 0)
 
 -- the lengths add up to what is in use, and those of the free slots are 0
-pub record Lengths (r : Editor) (plens paths tlens trees : List ℕ) : Type 0 where
+pub record Lengths (r : Record) (plens paths tlens trees : List ℕ) : Type 0 where
   pub paths-sound : Sound plens paths (r .paths)
   pub trees-sound : Sound tlens trees (r .trees)
   pub blank : (k : ℕ) → k < 64 → Blank (getD (digits 64 (r .free)) k 0) (getD plens k 0) (getD tlens k 0)

@@ -11,7 +11,7 @@ use Rattle.model.specs.Valid.{isTreeEntry, hasParent}
 use Rattle.names_compact.specs.Compact.{unpack, offset, Run}
 use Rattle.store_runs.specs.Runs.{total}
 use Rattle.store_slots.specs.View.{pathOf}
-use Rattle.store_slots.specs.declared.Editor.{Editor}
+use Rattle.store_slots.specs.declared.Record.{Record}
 use Rattle.store_check.specs.Written.{asideBy}
 use Rattle.store_check.specs.declared.parents.Known.{Known}
 
@@ -63,12 +63,12 @@ pub record Children (q : Bytes) (t : Tree) (plens paths order : List ℕ) (lo hi
   pub each : (j : ℕ) → i ≤ j → j < hi → Child q t (pathOf plens paths (getD order j 0))
 
 -- the stacked trees that stand in the table from i on lie below those that were set aside
-pub record Parented (w : ℕ) (r : Editor) (plens paths tlens trees order : List ℕ) (i : ℕ) : Type 0 where
+pub record Parented (w : ℕ) (r : Record) (plens paths tlens trees order : List ℕ) (i : ℕ) : Type 0 where
   pub low : 64 - r .stacked ≤ i
   pub high : i ≤ 64
   pub each : (j : ℕ) → i ≤ j → j < 64 → hasParent (pathOf plens paths (getD order j 0)) (asideBy w plens paths tlens trees order (r .aside)) ≡ true
 
 -- and so does the requested tree, where that is known
-pub record Hanging (w : ℕ) (r : Editor) (plens paths tlens trees order : List ℕ) (f : Known) : Type 0 where
+pub record Hanging (w : ℕ) (r : Record) (plens paths tlens trees order : List ℕ) (f : Known) : Type 0 where
   pub stacked : Parented w r plens paths tlens trees order (f .low)
   pub asked : f .asked ≡ true → hasParent (pathOf plens paths (r .asked)) (asideBy w plens paths tlens trees order (r .aside)) ≡ true

@@ -4,10 +4,10 @@ use mathlib.Core.List.{List}
 use lib.ListN.{length, take}
 use Rattle.model.specs.Editor.{Format}
 use Rattle.store_slots.specs.View.{treeRoom, Holds}
-use Rattle.store_slots.specs.declared.Editor.{Editor}
+use Rattle.store_slots.specs.declared.Record.{Record}
 
 -- the slices are as long as a store, and their fronts hold an editor
-pub record Stored (F : Format) (r : Editor) (plens paths tlens trees order : List ℕ) : Type 0 where
+pub record Stored (F : Format) (r : Record) (plens paths tlens trees order : List ℕ) : Type 0 where
   pub plens-room : 64 ≤ length plens
   pub paths-room : 8192 ≤ length paths
   pub tlens-room : 64 ≤ length tlens

@@ -11,18 +11,18 @@ use Rattle.model.specs.Editor.{Held, at, Cache, startPath}
 use Rattle.model.specs.Valid.{rootHeld, writeGood}
 use Rattle.store_runs.specs.Digits.{digits}
 use Rattle.store_slots.specs.View.{heldAt, startOf, editorOf, marked, Opened, Ordered}
-use Rattle.store_slots.specs.declared.Editor.{Editor}
+use Rattle.store_slots.specs.declared.Record.{Record}
 use Rattle.store_check.specs.Laid.{Lays}
 use Rattle.store_check.specs.declared.written.Marked.{Marked}
 
 -- the write's trees are in slots of their own, the root is cached or the write's start, and the trees hang together
-pub record Written (w : ℕ) (r : Editor) (plens paths tlens trees order : List ℕ) : Type 0 where
+pub record Written (w : ℕ) (r : Record) (plens paths tlens trees order : List ℕ) : Type 0 where
   pub ordered : Ordered r order
   pub root : rootHeld (editorOf w r plens paths tlens trees order .cached) (editorOf w r plens paths tlens trees order .writing) ≡ true
   pub write : writeGood (editorOf w r plens paths tlens trees order .writing) ≡ true
 
 -- the trees are laid out, good and within the limits, and the write's trees are in slots of their own
-pub record Taking (w : ℕ) (r : Editor) (plens paths tlens trees order : List ℕ) : Type 0 where
+pub record Taking (w : ℕ) (r : Record) (plens paths tlens trees order : List ℕ) : Type 0 where
   pub lays : Lays w r plens paths tlens trees
   pub narrow : w ≤ 64
   pub opened : Opened r order
@@ -51,7 +51,7 @@ abbrev pub startFrom : ℕ → ℕ → List ℕ → ℕ
 startFrom zero asked order = asked
 startFrom (suc n) asked order = getD order 0 0
 
-abbrev pub startSlot : Editor → List ℕ → ℕ
+abbrev pub startSlot : Record → List ℕ → ℕ
 startSlot r order = startFrom (r .aside) (r .asked) order
 
 -- a write that started at the path p may be open, and has or leaves a root

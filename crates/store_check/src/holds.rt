@@ -7,11 +7,11 @@ ghost use Rattle.model.specs.Formats.{sha1};
 ghost use Rattle.store_slots.specs.View.{treeRoom, Holds};
 ghost use Rattle.store_check.specs.Decides.{Decides};
 ghost use Rattle.store_check.specs.Stored.{Stored};
-use store_slots::Editor;
+use store_slots::Record;
 
 // Whether slices as long as a store hold an editor with ids of this width.
 fn exact(
-    r: Editor,
+    r: Record,
     plens: &[u64],
     paths: &[u8],
     tlens: &[u64],
@@ -30,7 +30,7 @@ fn exact(
 
 // Whether the record and the slices hold an editor with ids of 20 bytes.
 pub fn holds(
-    r: Editor,
+    r: Record,
     plens: &[u64],
     paths: &[u8],
     tlens: &[u64],

@@ -10,7 +10,7 @@ ghost use Rattle.store_slots.specs.View.{treeRoom};
 ghost use Rattle.store_check.specs.Decides.{Decides};
 ghost use Rattle.store_check.specs.Laid.{Lays, Blank, Lengths, goodPath, New, First, Paths, Trees};
 use names::tree::Checked;
-use store_slots::Editor;
+use store_slots::Record;
 
 // Whether the lengths add up to the bytes in use, which the slice has.
 fn is_sound(lens: &[u64], bytes: &[u8], used: usize) -> bool
@@ -52,7 +52,7 @@ fn blanks(map: u64, plens: &[u64], tlens: &[u64]) -> bool
 }
 
 // Whether the lengths add up, and those of the free slots are 0.
-fn lengths(r: Editor, plens: &[u64], paths: &[u8], tlens: &[u64], trees: &[u8]) -> bool
+fn lengths(r: Record, plens: &[u64], paths: &[u8], tlens: &[u64], trees: &[u8]) -> bool
     requires { ⌜ (length (now plens) ≡ 64) × (length (now tlens) ≡ 64) ⌝ }
     ensures { λ b. ⌜ Decides (Lengths r (now (plens .entry)) (now (paths .entry)) (now (tlens .entry)) (now (trees .entry))) b ⌝ }
 {
@@ -233,7 +233,7 @@ fn trees_good(
 
 // Whether the trees are laid out as the record says, well formed and within the limits, and their paths different and valid.
 pub fn laid(
-    r: Editor,
+    r: Record,
     plens: &[u64],
     paths: &[u8],
     tlens: &[u64],

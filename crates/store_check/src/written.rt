@@ -20,7 +20,7 @@ ghost use Rattle.store_check.specs.Parents.{Begun, Parented, Hanging};
 ghost use Rattle.store_check.specs.Written.{Written, Taking, Marks, asideBy, startSlot, startFine};
 use crate::parents::Known;
 use store_runs::runs::Found;
-use store_slots::Editor;
+use store_slots::Record;
 
 // Whether slots could be set in a map, and the map then.
 pub struct Marked {
@@ -67,7 +67,7 @@ fn mark_all(map: u64, order: &[u64], lo: usize, hi: usize) -> Marked
 }
 
 // Whether the slots that a write has taken are used and different, and hidden with the free ones.
-fn taken_ok(r: Editor, order: &[u64]) -> bool
+fn taken_ok(r: Record, order: &[u64]) -> bool
     requires { ⌜ length (now order) ≡ 64 ⌝ }
     ensures { λ b. ⌜ Decides (Opened r (now (order .entry))) b ⌝ }
 {
@@ -96,7 +96,7 @@ fn taken_ok(r: Editor, order: &[u64]) -> bool
 }
 
 // Whether no write is open.
-fn closed_ok(r: Editor) -> bool
+fn closed_ok(r: Record) -> bool
     ensures { λ b. ⌜ Decides (Closed r) b ⌝ }
 {
     if r.hidden != r.free {
@@ -136,7 +136,7 @@ fn has_tree(tree: &[u8], width: usize, name: &[u8]) -> bool
 
 // Whether the tree in a slot lies one component below one of the first n that were set aside, which has a tree entry for it.
 fn has_parent(
-    r: Editor,
+    r: Record,
     plens: &[u64],
     paths: &[u8],
     tlens: &[u64],
@@ -168,7 +168,7 @@ fn has_parent(
 
 // Whether each tree set aside but the first lies below one that was set aside before it.
 fn aside_ok(
-    r: Editor,
+    r: Record,
     plens: &[u64],
     paths: &[u8],
     tlens: &[u64],
@@ -193,7 +193,7 @@ fn aside_ok(
 
 // How far down the stacked trees lie below those that were set aside, in the order of these and of their entries, and whether the requested tree comes after them.
 fn walked(
-    r: Editor,
+    r: Record,
     plens: &[u64],
     paths: &[u8],
     tlens: &[u64],
@@ -238,7 +238,7 @@ fn walked(
 
 // The same, where trees are stacked.
 fn hanging(
-    r: Editor,
+    r: Record,
     plens: &[u64],
     paths: &[u8],
     tlens: &[u64],
@@ -262,7 +262,7 @@ fn hanging(
 
 // Whether the requested tree lies below one that was set aside, where that is not known.
 fn asked_ok(
-    r: Editor,
+    r: Record,
     plens: &[u64],
     paths: &[u8],
     tlens: &[u64],
@@ -294,7 +294,7 @@ fn asked_ok(
 
 // Whether each stacked tree lies below one that was set aside, where those from `low` on do.
 fn stacked_ok(
-    r: Editor,
+    r: Record,
     plens: &[u64],
     paths: &[u8],
     tlens: &[u64],
@@ -321,7 +321,7 @@ fn stacked_ok(
 
 // Whether the requested tree and each stacked tree lie below one that was set aside.
 fn below_ok(
-    r: Editor,
+    r: Record,
     plens: &[u64],
     paths: &[u8],
     tlens: &[u64],
@@ -341,7 +341,7 @@ fn below_ok(
 }
 
 // The slot of the tree that the write started at.
-pub fn start(r: Editor, order: &[u64]) -> usize
+pub fn start(r: Record, order: &[u64]) -> usize
     requires { ⌜ length (now order) ≡ 64 ⌝ }
     ensures { λ k. ⌜ k ≡ startSlot r (now (order .entry)) ⌝ }
 {
@@ -353,7 +353,7 @@ pub fn start(r: Editor, order: &[u64]) -> usize
 
 // Whether the trees that are taken hang together below the start.
 fn chain_ok(
-    r: Editor,
+    r: Record,
     plens: &[u64],
     paths: &[u8],
     tlens: &[u64],
@@ -377,7 +377,7 @@ fn chain_ok(
 }
 
 // Whether a root is cached.
-fn root_cached(r: Editor, plens: &[u64], paths: &[u8]) -> bool
+fn root_cached(r: Record, plens: &[u64], paths: &[u8]) -> bool
     requires { ⌜ Sound (now plens) (now paths) (r .paths) × (length (now plens) ≡ 64) ⌝ }
     ensures { λ b. ⌜ ((w : ℕ) (runs : List Bytes) → length runs ≡ 64 → b ≡ isSome (find at [] (gather (slotsOf w (digits 64 (r .hidden)) (cut (now (plens .entry)) (now (paths .entry))) runs)))) ⌝ }
 {
@@ -389,7 +389,7 @@ fn root_cached(r: Editor, plens: &[u64], paths: &[u8]) -> bool
 }
 
 // Whether the write started at a root where it says so, and a root is cached or is the start.
-fn start_ok(r: Editor, plens: &[u64], paths: &[u8], order: &[u64]) -> bool
+fn start_ok(r: Record, plens: &[u64], paths: &[u8], order: &[u64]) -> bool
     requires { ⌜ Sound (now plens) (now paths) (r .paths) × (length (now plens) ≡ 64) × (length (now order) ≡ 64) × (startSlot r (now order) < 64) × (1 ≤ r .«open») ⌝ }
     ensures { λ b. ⌜ ((w : ℕ) (runs : List Bytes) → length runs ≡ 64 → b ≡ startFine (r .«open») (pathOf (now (plens .entry)) (now (paths .entry)) (startSlot r (now (order .entry))))
         (gather (slotsOf w (digits 64 (r .hidden)) (cut (now (plens .entry)) (now (paths .entry))) runs))) ⌝ }
@@ -406,7 +406,7 @@ fn start_ok(r: Editor, plens: &[u64], paths: &[u8], order: &[u64]) -> bool
 
 // Whether the open write, if one is open, is one that can be.
 pub fn write_ok(
-    r: Editor,
+    r: Record,
     plens: &[u64],
     paths: &[u8],
     tlens: &[u64],

@@ -28,17 +28,17 @@ use Rattle.names.specs.Splice.{splice}
 use Rattle.names_compact.specs.declared.compact.Place.{Place}
 use Rattle.names_compact.proofs.CompactLaws.{packed-length}
 use Rattle.store_slots.specs.View.{viewOf, heldAs, Laid, Used, pathOf, treeOf}
-use Rattle.store_slots.specs.declared.Editor.{Editor}
+use Rattle.store_slots.specs.declared.Record.{Record}
 use Rattle.store_slots.proofs.Relaid.{others-with, run-in, with-here, well-unpacked, relaid-view, relaid, find-slot, entries-in, names-in}
 use Rattle.store_slots.proofs.Calls.{run-length}
 use Rattle.store_slots.proofs.Counts.{trees-is}
 use Rattle.store_entries.specs.Entries.{Fresh, Kept, Edited}
 use Rattle.store_entries.proofs.Laws.{well-del, missing, not-found, inside, found-entry, marked, bytes-without, one-fewer, names-fewer, bytes-over, as-many, as-long, name-is, set-over, bytes-with, place-in, one-more, names-more, well-put, fresh-then}
 
-pub all-kept : (r : Editor) → Kept r r
+pub all-kept : (r : Record) → Kept r r
 all-kept r = record { free = refl; hidden = refl; paths = refl; write = record { «open» = refl; aside = refl; stacked = refl; asked = refl } }
 
-pub kept-twice : {r q s : Editor} → Kept r q → Kept q s → Kept r s
+pub kept-twice : {r q s : Record} → Kept r q → Kept q s → Kept r s
 kept-twice a b =
     record {
       free = b .free ∙ a .free;
@@ -47,7 +47,7 @@ kept-twice a b =
       write = record { «open» = b .write .«open» ∙ a .write .«open»; aside = b .write .aside ∙ a .write .aside; stacked = b .write .stacked ∙ a .write .stacked; asked = b .write .asked ∙ a .write .asked };
     }
 
-module _ (w : ℕ) (r : Editor) (plens paths tlens trees : List ℕ) (L : Laid w r plens paths tlens trees) (k : ℕ) (U : Used r k) where
+module _ (w : ℕ) (r : Record) (plens paths tlens trees : List ℕ) (L : Laid w r plens paths tlens trees) (k : ℕ) (U : Used r k) where
   abbrev B : Bytes
   B = getD (cut tlens trees) k []
 
@@ -64,7 +64,7 @@ module _ (w : ℕ) (r : Editor) (plens paths tlens trees : List ℕ) (L : Laid w
   ris = well-rising w t (L .well k (U .low))
 
   -- one law for every edit of a slot's tree
-  pub edited : (t′ : Tree) (g : Bytes → Bytes) (q : Editor) (tlens′ trees′ : List ℕ) → g B ≡ packedAll t′ → wellFormed w t′ ≡ true → cut tlens′ trees′ ≡ withRun k g (cut tlens trees) →
+  pub edited : (t′ : Tree) (g : Bytes → Bytes) (q : Record) (tlens′ trees′ : List ℕ) → g B ≡ packedAll t′ → wellFormed w t′ ≡ true → cut tlens′ trees′ ≡ withRun k g (cut tlens trees) →
       Kept r q → length tlens′ ≡ length tlens → length trees′ ≡ length trees → Sound tlens′ trees′ (q .trees) →
       q .entries + length t ≡ r .entries + length t′ → q .names + nameBytes t ≡ r .names + nameBytes t′ → Edited w r plens paths tlens trees k t′ q tlens′ trees′
   edited t′ g q tlens′ trees′ e wf c same tl tb st ee en =
@@ -134,7 +134,7 @@ module _ (w : ℕ) (r : Editor) (plens paths tlens trees : List ℕ) (L : Laid w
       pub some-names : (n : ℕ) → n ≡ getD (runOf tlens trees k) (p .at + 1) 0 → n ≤ r .names
       some-names n q = omega (arith, same-byte n q, names-fewer w B kk run ris p T′ e, names-in w r plens paths tlens trees L k (U .low) (U .used))
 
-      pub removing : (n : ℕ) → n ≡ getD (runOf tlens trees k) (p .at + 1) 0 → (q : Editor) (tlens′ trees′ : List ℕ) →
+      pub removing : (n : ℕ) → n ≡ getD (runOf tlens trees k) (p .at + 1) 0 → (q : Record) (tlens′ trees′ : List ℕ) →
           cut tlens′ trees′ ≡ withRun k (λ (l : Bytes). removed l (p .at) (2 + w + n)) (cut tlens trees) → length tlens′ ≡ length tlens → length trees′ ≡ length trees → Sound tlens′ trees′ (q .trees) →
           Kept r q → q .entries ≡ r .entries - 1 → q .names ≡ r .names - n → Edited w r plens paths tlens trees k (del key kk t) q tlens′ trees′
       removing n en q tlens′ trees′ c tl tb st same ee enn =
@@ -230,7 +230,7 @@ module _ (w : ℕ) (r : Editor) (plens paths tlens trees : List ℕ) (L : Laid w
       pub counts-fit : (r .entries ≤ 1024) × (r .names + length name ≤ 16384)
       counts-fit = (omega (arith, entries-then (put key e t) f, more), omega (arith, names-then (put key e t) f, names-m))
 
-    pub inserting : (src : Bytes) → src ≡ packed e → (q : Editor) (tlens′ trees′ : List ℕ) →
+    pub inserting : (src : Bytes) → src ≡ packed e → (q : Record) (tlens′ trees′ : List ℕ) →
         cut tlens′ trees′ ≡ withRun k (λ (l : Bytes). inserted l (p .at) src) (cut tlens trees) → length tlens′ ≡ length tlens → length trees′ ≡ length trees → Sound tlens′ trees′ (q .trees) →
         Kept r q → q .entries ≡ r .entries + 1 → q .names ≡ r .names + length name → Edited w r plens paths tlens trees k (put key e t) q tlens′ trees′
     inserting src se q tlens′ trees′ cc′ tl tb st same ee en =
@@ -239,7 +239,7 @@ module _ (w : ℕ) (r : Editor) (plens paths tlens trees : List ℕ) (L : Laid w
         (omega (arith, ee, more)) (omega (arith, en, names-m))
 
 -- two edits of one slot, one after the other
-pub edited-twice : {w : ℕ} {r q s : Editor} {plens paths tlens trees tlens′ trees′ tlens″ trees″ : List ℕ} {k : ℕ} {t u : Tree} →
+pub edited-twice : {w : ℕ} {r q s : Record} {plens paths tlens trees tlens′ trees′ tlens″ trees″ : List ℕ} {k : ℕ} {t u : Tree} →
     Edited w r plens paths tlens trees k t q tlens′ trees′ → Edited w q plens paths tlens′ trees′ k u s tlens″ trees″ → Edited w r plens paths tlens trees k u s tlens″ trees″
 edited-twice {w = w} {r = r} {plens = plens} {paths = paths} {tlens = tlens} {trees = trees} {k = k} {t = t} {u = u} a b =
     record {
@@ -251,12 +251,12 @@ edited-twice {w = w} {r = r} {plens = plens} {paths = paths} {tlens = tlens} {tr
       others = record { run = λ j n. b .others .run j n ∙ a .others .run j n };
     }
 
-pub edited-same : {w : ℕ} {r q : Editor} {plens paths tlens trees tlens′ trees′ : List ℕ} {k : ℕ} {t : Tree} →
+pub edited-same : {w : ℕ} {r q : Record} {plens paths tlens trees tlens′ trees′ : List ℕ} {k : ℕ} {t : Tree} →
     Edited w r plens paths tlens trees k t q tlens′ trees′ → (u : Tree) → t ≡ u → Edited w r plens paths tlens trees k u q tlens′ trees′
 edited-same {w = w} {r = r} {q = q} {plens = plens} {paths = paths} {tlens = tlens} {trees = trees} {tlens′ = tlens′} {trees′ = trees′} {k = k} a u e = subst (λ (z : Tree). Edited w r plens paths tlens trees k z q tlens′ trees′) e a
 
 -- the twin of an entry removed, then the entry put in
-module _ {w : ℕ} {r q : Editor} {plens paths tlens trees tlens′ trees′ : List ℕ} {k : ℕ} (L : Laid w r plens paths tlens trees) (U : Used r k) (m : Mode) (name id : Bytes) (b : Bool) (eb : b ≡ isTree m)
+module _ {w : ℕ} {r q : Record} {plens paths tlens trees tlens′ trees′ : List ℕ} {k : ℕ} (L : Laid w r plens paths tlens trees) (U : Used r k) (m : Mode) (name id : Bytes) (b : Bool) (eb : b ≡ isTree m)
     (first : Edited w r plens paths tlens trees k (del key (asKind (not b) name) (treeOf w tlens trees k)) q tlens′ trees′) where
   abbrev the : Entry
   the = record { mode = m; name = name; id = id }

@@ -17,11 +17,11 @@ ghost use Rattle.store_slots.specs.View.{viewOf, heldAs, Laid, pathOf, treeOf, 
 ghost use Rattle.store_entries.specs.Entries.{Fresh, Edited};
 use names::mode::EntryKind;
 use names_compact::compact::Place;
-use store_slots::Editor;
+use store_slots::Record;
 
 // Removes the entry of a name, of a tree or of another, if there is one.
 pub fn remove_key(
-    r: Editor,
+    r: Record,
     plens: &[u64],
     paths: &[u8],
     tlens: &mut [u64],
@@ -30,7 +30,7 @@ pub fn remove_key(
     slot: usize,
     name: &[u8],
     as_tree: bool,
-) -> Editor
+) -> Record
     requires { ⌜ Laid width r (now plens) (now paths) (now tlens) (now trees) × (width ≤ 64) × Used r slot ⌝ }
     ensures { λ q. ⌜ Edited width r (now (plens .entry)) (now (paths .entry)) (now (tlens .entry)) (now (trees .entry)) slot (del key (asKind «as_tree» (now (name .entry))) (treeOf width (now (tlens .entry)) (now (trees .entry)) slot)) q (now (tlens .exit)) (now (trees .exit)) ⌝ }
 {
@@ -55,7 +55,7 @@ pub fn remove_key(
     let t = store_runs::runs::remove(tlens, trees, nt, slot, a, 2 + width + n);
     let left = r.entries - 1;
     let bytes = r.names - n;
-    Editor {
+    Record {
         trees: t,
         entries: left,
         names: bytes,
@@ -65,7 +65,7 @@ pub fn remove_key(
 
 // Removes the entry of a name.
 pub fn remove(
-    r: Editor,
+    r: Record,
     plens: &[u64],
     paths: &[u8],
     tlens: &mut [u64],
@@ -73,7 +73,7 @@ pub fn remove(
     width: usize,
     slot: usize,
     name: &[u8],
-) -> Editor
+) -> Record
     requires { ⌜ Laid width r (now plens) (now paths) (now tlens) (now trees) × (width ≤ 64) × Used r slot ⌝ }
     ensures { λ q. ⌜ Edited width r (now (plens .entry)) (now (paths .entry)) (now (tlens .entry)) (now (trees .entry)) slot (without (now (name .entry)) (treeOf width (now (tlens .entry)) (now (trees .entry)) slot)) q (now (tlens .exit)) (now (trees .exit)) ⌝ }
 {
@@ -83,7 +83,7 @@ pub fn remove(
 
 // Puts an entry in, of whose name the tree has none, at the place that the search of its key gave.
 fn insert_at(
-    r: Editor,
+    r: Record,
     plens: &[u64],
     paths: &[u8],
     tlens: &mut [u64],
@@ -94,7 +94,7 @@ fn insert_at(
     kind: EntryKind,
     id: &[u8],
     name: &[u8],
-) -> Editor
+) -> Record
     requires { ⌜ Laid width r (now plens) (now paths) (now tlens) (now trees) × (width ≤ 64) × Used r slot × (length (now id) ≡ width) × (goodName (now name) ≡ true)
         × Fresh (now name) (treeOf width (now tlens) (now trees) slot)
         × (fits (put at (heldAs (pathOf (now plens) (now paths) slot) (put key (entry kind (now name) (now id)) (treeOf width (now tlens) (now trees) slot))) (viewOf width r (now plens) (now paths) (now tlens) (now trees))) ≡ true)
@@ -108,7 +108,7 @@ fn insert_at(
     let t = store_runs::runs::insert(tlens, trees, nt, slot, place.at, &buf[..n]);
     let more = r.entries + 1;
     let bytes = r.names + name.len();
-    Editor {
+    Record {
         trees: t,
         entries: more,
         names: bytes,
@@ -118,7 +118,7 @@ fn insert_at(
 
 // Puts an entry in, of whose name the tree has none.
 pub fn insert_key(
-    r: Editor,
+    r: Record,
     plens: &[u64],
     paths: &[u8],
     tlens: &mut [u64],
@@ -128,7 +128,7 @@ pub fn insert_key(
     kind: EntryKind,
     id: &[u8],
     name: &[u8],
-) -> Editor
+) -> Record
     requires { ⌜ Laid width r (now plens) (now paths) (now tlens) (now trees) × (width ≤ 64) × Used r slot × (length (now id) ≡ width) × (goodName (now name) ≡ true)
         × Fresh (now name) (treeOf width (now tlens) (now trees) slot)
         × (fits (put at (heldAs (pathOf (now plens) (now paths) slot) (put key (entry kind (now name) (now id)) (treeOf width (now tlens) (now trees) slot))) (viewOf width r (now plens) (now paths) (now tlens) (now trees))) ≡ true) ⌝ }
@@ -178,7 +178,7 @@ fn rewrite(
 
 // Puts an entry in, in place of the one of its name and of another kind of key, if there is one.
 fn replace(
-    r: Editor,
+    r: Record,
     plens: &[u64],
     paths: &[u8],
     tlens: &mut [u64],
@@ -188,7 +188,7 @@ fn replace(
     kind: EntryKind,
     id: &[u8],
     name: &[u8],
-) -> Editor
+) -> Record
     requires { ⌜ Laid width r (now plens) (now paths) (now tlens) (now trees) × (width ≤ 64) × Used r slot × (length (now id) ≡ width) × (goodName (now name) ≡ true)
         × (find key (asKind (isTree (asMode kind)) (now name)) (treeOf width (now tlens) (now trees) slot) ≡ none)
         × (fits (put at (heldAs (pathOf (now plens) (now paths) slot) (withEntry (entry kind (now name) (now id)) (treeOf width (now tlens) (now trees) slot))) (viewOf width r (now plens) (now paths) (now tlens) (now trees))) ≡ true) ⌝ }
@@ -201,7 +201,7 @@ fn replace(
 
 // Puts an entry in, of whose key the tree has none, at the place that the search of its key gave, unless the one of its name and of another kind of key goes first.
 fn add(
-    r: Editor,
+    r: Record,
     plens: &[u64],
     paths: &[u8],
     tlens: &mut [u64],
@@ -212,7 +212,7 @@ fn add(
     kind: EntryKind,
     id: &[u8],
     name: &[u8],
-) -> Editor
+) -> Record
     requires { ⌜ Laid width r (now plens) (now paths) (now tlens) (now trees) × (width ≤ 64) × Used r slot × (length (now id) ≡ width) × (goodName (now name) ≡ true)
         × (find key (asKind (isTree (asMode kind)) (now name)) (treeOf width (now tlens) (now trees) slot) ≡ none)
         × (fits (put at (heldAs (pathOf (now plens) (now paths) slot) (withEntry (entry kind (now name) (now id)) (treeOf width (now tlens) (now trees) slot))) (viewOf width r (now plens) (now paths) (now tlens) (now trees))) ≡ true)
@@ -248,7 +248,7 @@ fn add(
 
 // Sets an entry: in place of the one of its name, in order, or as a new one.
 pub fn set(
-    r: Editor,
+    r: Record,
     plens: &[u64],
     paths: &[u8],
     tlens: &mut [u64],
@@ -258,7 +258,7 @@ pub fn set(
     kind: EntryKind,
     id: &[u8],
     name: &[u8],
-) -> Editor
+) -> Record
     requires { ⌜ Laid width r (now plens) (now paths) (now tlens) (now trees) × (width ≤ 64) × Used r slot × (length (now id) ≡ width) × (goodName (now name) ≡ true)
         × (fits (put at (heldAs (pathOf (now plens) (now paths) slot) (withEntry (entry kind (now name) (now id)) (treeOf width (now tlens) (now trees) slot))) (viewOf width r (now plens) (now paths) (now tlens) (now trees))) ≡ true) ⌝ }
     ensures { λ q. ⌜ Edited width r (now (plens .entry)) (now (paths .entry)) (now (tlens .entry)) (now (trees .entry)) slot (withEntry (entry kind (now (name .entry)) (now (id .entry))) (treeOf width (now (tlens .entry)) (now (trees .entry)) slot)) q (now (tlens .exit)) (now (trees .exit)) ⌝ }

@@ -21,7 +21,7 @@ use Rattle.store_runs.proofs.FindLaws.{cut-at}
 use Rattle.names_compact.specs.Compact.{packedAll, unpack, Run}
 use Rattle.names_compact.proofs.CompactLaws.{packed-room, wide-good}
 use Rattle.store_slots.specs.View.{heldAs, slots, gather, viewOf, Laid, Used, pathOf, treeOf}
-use Rattle.store_slots.specs.declared.Editor.{Editor}
+use Rattle.store_slots.specs.declared.Record.{Record}
 use Rattle.store_slots.proofs.Gather.{find-gather, firstHeld}
 use Rattle.store_slots.proofs.Relaid.{run-in, with-here, entries-in, names-in, freed-view, freed, taken-view, taken}
 use lib.Seq.{length-take-le}
@@ -45,13 +45,13 @@ not-first p (h ∷ hs) e = step (same p (h .path)) e (not-first p hs)
 pub not-among : (p : Bytes) (hs : List Held) → find at p (gather hs) ≡ none → among p (map at hs) ≡ false
 not-among p hs e = not-first p hs (sym (find-gather p hs) ∙ e)
 
-pub record Added (w : ℕ) (r : Editor) (plens paths tlens trees : List ℕ) (p : Bytes) (k : ℕ) (q : Editor) (plens′ paths′ : List ℕ) : Type 0 where
+pub record Added (w : ℕ) (r : Record) (plens paths tlens trees : List ℕ) (p : Bytes) (k : ℕ) (q : Record) (plens′ paths′ : List ℕ) : Type 0 where
   pub view : viewOf w q plens′ paths′ tlens trees ≡ put at (heldAs p []) (viewOf w r plens paths tlens trees)
   pub used : Used q k
   pub path : pathOf plens′ paths′ k ≡ p
   pub laid : Laid w q plens′ paths′ tlens trees
 
-module _ (w : ℕ) (r : Editor) (plens paths tlens trees : List ℕ) (L : Laid w r plens paths tlens trees) where
+module _ (w : ℕ) (r : Record) (plens paths tlens trees : List ℕ) (L : Laid w r plens paths tlens trees) where
   -- the run of a slot, where it lies
   pub searched-run : (k : ℕ) → k < 64 → Run w (runOf tlens trees k)
   searched-run k h = subst (Run w) (cut-at tlens trees k (omega (arith, L .tlens-64))) (run-in w r plens paths tlens trees L k h)
@@ -69,7 +69,7 @@ module _ (w : ℕ) (r : Editor) (plens paths tlens trees : List ℕ) (L : Laid w
   run-fits k h = omega (arith, total-within tlens k (omega (arith, L .tlens-64)), L .trees-sound .sum, L .trees-sound .fits, L .trees-room)
 
   -- a slot's path and run taken out
-  pub dropped : (k : ℕ) → Used r k → (q : Editor) (plens′ paths′ tlens′ trees′ : List ℕ) (n m es : ℕ) → n ≡ getD plens k 0 → m ≡ getD tlens k 0 → es ≡ length (treeOf w tlens trees k) →
+  pub dropped : (k : ℕ) → Used r k → (q : Record) (plens′ paths′ tlens′ trees′ : List ℕ) (n m es : ℕ) → n ≡ getD plens k 0 → m ≡ getD tlens k 0 → es ≡ length (treeOf w tlens trees k) →
       cut plens′ paths′ ≡ withRun k (λ (l : Bytes). removed l 0 n) (cut plens paths) → cut tlens′ trees′ ≡ withRun k (λ (l : Bytes). removed l 0 m) (cut tlens trees) →
       Sound plens′ paths′ (q .paths) → Sound tlens′ trees′ (q .trees) → length plens′ ≡ length plens → length tlens′ ≡ length tlens → length paths′ ≡ length paths → length trees′ ≡ length trees →
       digits 64 (q .free) ≡ set (digits 64 (r .free)) k 1 → q .entries ≡ r .entries - es → q .names ≡ r .names - (m - es * (2 + w)) →
@@ -112,7 +112,7 @@ module _ (w : ℕ) (r : Editor) (plens paths tlens trees : List ℕ) (L : Laid w
     not-used : getD ds k 0 ≡ 0 → ⊥
     not-used z = omega (arith, digit-one)
 
-    pub added : (q : Editor) (plens′ paths′ : List ℕ) → cut plens′ paths′ ≡ withRun k (λ (l : Bytes). inserted l 0 p) (cut plens paths) → Sound plens′ paths′ (q .paths) →
+    pub added : (q : Record) (plens′ paths′ : List ℕ) → cut plens′ paths′ ≡ withRun k (λ (l : Bytes). inserted l 0 p) (cut plens paths) → Sound plens′ paths′ (q .paths) →
         length plens′ ≡ length plens → length paths′ ≡ length paths → digits 64 (q .free) ≡ set ds k 0 → q .trees ≡ r .trees → q .entries ≡ r .entries → q .names ≡ r .names →
         Added w r plens paths tlens trees p k q plens′ paths′
     added q plens′ paths′ cp sp pl pb ef et ee en =

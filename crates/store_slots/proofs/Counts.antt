@@ -24,7 +24,7 @@ use Rattle.names.specs.Check.{Wide}
 use Rattle.names_compact.specs.Compact.{packedAll, unpack}
 use Rattle.names_compact.proofs.CompactLaws.{packed-room, wide-good}
 use Rattle.store_slots.specs.View.{ifUsed, heldIn, slotsOf, slots, viewOf, Laid}
-use Rattle.store_slots.specs.declared.Editor.{Editor}
+use Rattle.store_slots.specs.declared.Record.{Record}
 use Rattle.store_slots.proofs.Gather.{gather-entries, gather-names, gather-paths, gather-length}
 use Rattle.store_slots.proofs.Where.{Bits, digits-bits}
 use Rattle.model.proofs.RawLaws.{well-entries}
@@ -103,7 +103,7 @@ some-one (d ∷ ds) h = go d h (λ i. some-one ds i)
 
 -- ---- of a store that is laid out
 
-module _ (w : ℕ) (r : Editor) (plens paths tlens trees : List ℕ) (L : Laid w r plens paths tlens trees) where
+module _ (w : ℕ) (r : Record) (plens paths tlens trees : List ℕ) (L : Laid w r plens paths tlens trees) where
   abbrev ds : List ℕ
   ds = digits 64 (r .free)
 

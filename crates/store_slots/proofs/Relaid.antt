@@ -24,7 +24,7 @@ use Rattle.store_runs.proofs.Laws.{length-cut, with-other}
 use Rattle.names_compact.specs.Compact.{packedAll, unpack, Run}
 use Rattle.names_compact.proofs.CompactLaws.{wide-good, unpacked}
 use Rattle.store_slots.specs.View.{slotsOf, slots, gather, viewOf, Laid, Others}
-use Rattle.store_slots.specs.declared.Editor.{Editor}
+use Rattle.store_slots.specs.declared.Record.{Record}
 use Rattle.store_slots.proofs.Gather.{gather-entries, gather-names, total-mid, total-more, distinct-insert, distinct-remove, distinct-before, gather-mid}
 use Rattle.model.proofs.MapLaws.{find-put-same}
 use Rattle.store_slots.proofs.Slots.{front, back, slot, split-used, split-free, run-used, view-run, view-free, view-take, apart-run, slots-set}
@@ -41,7 +41,7 @@ with-here f (r ∷ rs) (suc k) h = with-here f rs k (omega arith)
 pub others-with : (f : Bytes → Bytes) (lens bytes lens′ bytes′ : List ℕ) (k : ℕ) → cut lens′ bytes′ ≡ withRun k f (cut lens bytes) → Others lens bytes k lens′ bytes′
 others-with f lens bytes lens′ bytes′ k c = record { run = λ j n. ap (λ (x : List Bytes). getD x j []) c ∙ with-other f (cut lens bytes) k j n }
 
-module _ (w : ℕ) (r : Editor) (plens paths tlens trees : List ℕ) (L : Laid w r plens paths tlens trees) (k : ℕ) (h : k < 64) where
+module _ (w : ℕ) (r : Record) (plens paths tlens trees : List ℕ) (L : Laid w r plens paths tlens trees) (k : ℕ) (h : k < 64) where
   abbrev ds : List ℕ
   ds = digits 64 (r .free)
 
@@ -75,7 +75,7 @@ module _ (w : ℕ) (r : Editor) (plens paths tlens trees : List ℕ) (L : Laid w
   run-in = record { bytes = L .packed k h; good = well-entries w treeIn (L .well k h) }
 
   -- a run that becomes the packed form of another tree
-  module _ (u : getD ds k 0 ≡ 0) (t′ : Tree) (g : Bytes → Bytes) (r′ : Editor) (tlens′ trees′ : List ℕ) (e : g (getD bs k []) ≡ packedAll t′) (well′ : wellFormed w t′ ≡ true)
+  module _ (u : getD ds k 0 ≡ 0) (t′ : Tree) (g : Bytes → Bytes) (r′ : Record) (tlens′ trees′ : List ℕ) (e : g (getD bs k []) ≡ packedAll t′) (well′ : wellFormed w t′ ≡ true)
       (c : cut tlens′ trees′ ≡ withRun k g bs) (ef : r′ .free ≡ r .free) where
     slots′ : slots w r′ plens paths tlens′ trees′ ≡ slotsOf w ds ps (withRun k g bs)
     slots′ = ap₂ (λ (x : ℕ) (y : List Bytes). slotsOf w (digits 64 x) ps y) ef c
@@ -147,7 +147,7 @@ module _ (w : ℕ) (r : Editor) (plens paths tlens trees : List ℕ) (L : Laid w
         well-at j hj false b = ap (λ (x : Bytes). wellFormed w (unpack w x)) (other′ j (eqb-false j k b)) ∙ L .well j hj
 
   -- a slot whose digit, path and run are set
-  module _ (f g : Bytes → Bytes) (x : ℕ) (r′ : Editor) (plens′ paths′ tlens′ trees′ : List ℕ) (cp : cut plens′ paths′ ≡ withRun k f ps) (cb : cut tlens′ trees′ ≡ withRun k g bs) (ef : digits 64 (r′ .free) ≡ set ds k x) where
+  module _ (f g : Bytes → Bytes) (x : ℕ) (r′ : Record) (plens′ paths′ tlens′ trees′ : List ℕ) (cp : cut plens′ paths′ ≡ withRun k f ps) (cb : cut tlens′ trees′ ≡ withRun k g bs) (ef : digits 64 (r′ .free) ≡ set ds k x) where
     set-is : slots w r′ plens′ paths′ tlens′ trees′ ≡ slotsOf w (set ds k x) (withRun k f ps) (withRun k g bs)
     set-is = ap₂ (λ (a : List ℕ) (b : List Bytes). slotsOf w a b (cut tlens′ trees′)) ef cp ∙ ap (slotsOf w (set ds k x) (withRun k f ps)) cb
 
@@ -215,7 +215,7 @@ module _ (w : ℕ) (r : Editor) (plens paths tlens trees : List ℕ) (L : Laid w
                 (path-other j o ∙ L .empty j hj m .0, run-other j o ∙ L .empty j hj m .1)
 
   -- a slot taken: a new path with its tree
-  module _ (u : getD ds k 0 ≡ 0 → ⊥) (f g : Bytes → Bytes) (r′ : Editor) (plens′ paths′ tlens′ trees′ : List ℕ) (cp : cut plens′ paths′ ≡ withRun k f ps) (cb : cut tlens′ trees′ ≡ withRun k g bs) (ef : digits 64 (r′ .free) ≡ set ds k 0)
+  module _ (u : getD ds k 0 ≡ 0 → ⊥) (f g : Bytes → Bytes) (r′ : Record) (plens′ paths′ tlens′ trees′ : List ℕ) (cp : cut plens′ paths′ ≡ withRun k f ps) (cb : cut tlens′ trees′ ≡ withRun k g bs) (ef : digits 64 (r′ .free) ≡ set ds k 0)
       (p : Bytes) (ep : f pathIn ≡ p) (t′ : Tree) (e : g (getD bs k []) ≡ packedAll t′) (well′ : wellFormed w t′ ≡ true) (n : among p (map at (slots w r plens paths tlens trees)) ≡ false) where
     abbrev new : Held
     new = record { path = p; held = t′ }
@@ -254,7 +254,7 @@ module _ (w : ℕ) (r : Editor) (plens paths tlens trees : List ℕ) (L : Laid w
         (omega (arith, L .names, gather-names (slots w r′ plens′ paths′ tlens′ trees′) taken-apart, gather-names (slots w r plens paths tlens trees) (L .apart), names-total (slots w r′ plens′ paths′ tlens′ trees′), names-total (slots w r plens paths tlens trees), taken-sum (λ z. nameBytes (z .held))))
 
   -- a slot freed
-  module _ (u : getD ds k 0 ≡ 0) (f g : Bytes → Bytes) (r′ : Editor) (plens′ paths′ tlens′ trees′ : List ℕ) (cp : cut plens′ paths′ ≡ withRun k f ps) (cb : cut tlens′ trees′ ≡ withRun k g bs) (ef : digits 64 (r′ .free) ≡ set ds k 1)
+  module _ (u : getD ds k 0 ≡ 0) (f g : Bytes → Bytes) (r′ : Record) (plens′ paths′ tlens′ trees′ : List ℕ) (cp : cut plens′ paths′ ≡ withRun k f ps) (cb : cut tlens′ trees′ ≡ withRun k g bs) (ef : digits 64 (r′ .free) ≡ set ds k 1)
       (ep : f pathIn ≡ []) (e : g (getD bs k []) ≡ []) where
     abbrev old : Held
     old = record { path = pathIn; held = treeIn }

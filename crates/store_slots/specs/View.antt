@@ -18,7 +18,7 @@ use Rattle.model.specs.Valid.{valid}
 use Rattle.store_runs.specs.Digits.{digits}
 use Rattle.store_runs.specs.Runs.{cut, Sound}
 use Rattle.names_compact.specs.Compact.{packedAll, unpack}
-use Rattle.store_slots.specs.declared.Editor.{Editor}
+use Rattle.store_slots.specs.declared.Record.{Record}
 
 -- a slot with the digit d of the free map, before the slots after it
 abbrev pub ifUsed : ℕ → Held → List Held → List Held
@@ -40,10 +40,10 @@ unfoldable pub gather : List Held → Cache
 gather [] = []
 gather (h ∷ hs) = put at h (gather hs)
 
-abbrev pub slots : ℕ → Editor → List ℕ → List ℕ → List ℕ → List ℕ → List Held
+abbrev pub slots : ℕ → Record → List ℕ → List ℕ → List ℕ → List ℕ → List Held
 slots w r plens paths tlens trees = slotsOf w (digits 64 (r .free)) (cut plens paths) (cut tlens trees)
 
-abbrev pub viewOf : ℕ → Editor → List ℕ → List ℕ → List ℕ → List ℕ → Cache
+abbrev pub viewOf : ℕ → Record → List ℕ → List ℕ → List ℕ → List ℕ → Cache
 viewOf w r plens paths tlens trees = gather (slots w r plens paths tlens trees)
 
 -- the bytes that a slice for the trees has
@@ -51,7 +51,7 @@ abbrev pub treeRoom : ℕ → ℕ
 treeRoom w = 1024 * (2 + w) + 16384
 
 -- the layout's own rules: every call asks them and leaves them
-pub record Laid (w : ℕ) (r : Editor) (plens paths tlens trees : List ℕ) : Type 0 where
+pub record Laid (w : ℕ) (r : Record) (plens paths tlens trees : List ℕ) : Type 0 where
   pub plens-64 : length plens ≡ 64
   pub tlens-64 : length tlens ≡ 64
   pub paths-room : length paths ≡ 8192
@@ -82,7 +82,7 @@ abbrev pub heldAs : Bytes → Tree → Held
 heldAs p t = record { path = p; held = t }
 
 -- the slot k is used
-pub record Used (r : Editor) (k : ℕ) : Type 0 where
+pub record Used (r : Record) (k : ℕ) : Type 0 where
   pub low : k < 64
   pub used : getD (digits 64 (r .free)) k 0 ≡ 0
 
@@ -104,15 +104,15 @@ abbrev pub heldAt : ℕ → List ℕ → List ℕ → List ℕ → List ℕ → 
 heldAt w plens paths tlens trees k = heldIn w (getD (cut plens paths) k []) (getD (cut tlens trees) k [])
 
 -- the cached trees: those of the slots that are neither free nor taken
-abbrev pub cachedOf : ℕ → Editor → List ℕ → List ℕ → List ℕ → List ℕ → Cache
+abbrev pub cachedOf : ℕ → Record → List ℕ → List ℕ → List ℕ → List ℕ → Cache
 cachedOf w r plens paths tlens trees = gather (slotsOf w (digits 64 (r .hidden)) (cut plens paths) (cut tlens trees))
 
 -- the trees set aside, the latest first: their slots are at the front of the order, the start tree's first
-abbrev pub asideOf : ℕ → Editor → List ℕ → List ℕ → List ℕ → List ℕ → List ℕ → List Held
+abbrev pub asideOf : ℕ → Record → List ℕ → List ℕ → List ℕ → List ℕ → List ℕ → List Held
 asideOf w r plens paths tlens trees order = reverse (map (heldAt w plens paths tlens trees) (take (r .aside) order))
 
 -- the trees stacked, the next to be taken first: their slots are at the back of the order
-abbrev pub stackedOf : ℕ → Editor → List ℕ → List ℕ → List ℕ → List ℕ → List ℕ → List Held
+abbrev pub stackedOf : ℕ → Record → List ℕ → List ℕ → List ℕ → List ℕ → List ℕ → List Held
 stackedOf w r plens paths tlens trees order = map (heldAt w plens paths tlens trees) (drop (64 - r .stacked) order)
 
 abbrev pub startOf : ℕ → Bytes → Start
@@ -125,7 +125,7 @@ abbrev pub writeOf : ℕ → Held → List Held → List Held → Option Write
 writeOf zero asked aside stacked = none
 writeOf (suc n) asked aside stacked = some (record { start = startOf (suc n) (bottom asked aside .path); stacked = stacked; aside = aside; asked = asked })
 
-abbrev pub editorOf : ℕ → Editor → List ℕ → List ℕ → List ℕ → List ℕ → List ℕ → Model
+abbrev pub editorOf : ℕ → Record → List ℕ → List ℕ → List ℕ → List ℕ → List ℕ → Model
 editorOf w r plens paths tlens trees order =
     record {
       cached = cachedOf w r plens paths tlens trees;
@@ -133,7 +133,7 @@ editorOf w r plens paths tlens trees order =
     }
 
 -- the slots of the trees that the write has taken
-abbrev pub takenOf : Editor → List ℕ → List ℕ
+abbrev pub takenOf : Record → List ℕ → List ℕ
 takenOf r order = r .asked ∷ (take (r .aside) order ++ drop (64 - r .stacked) order)
 
 -- the digits with each of the places set
@@ -146,14 +146,14 @@ allDifferent [] = true
 allDifferent (k ∷ ks) = not (has k ks) && allDifferent ks
 
 -- no write is open
-pub record Closed (r : Editor) : Type 0 where
+pub record Closed (r : Record) : Type 0 where
   pub hidden : r .hidden ≡ r .free
   pub aside : r .aside ≡ 0
   pub stacked : r .stacked ≡ 0
   pub asked : r .asked ≡ 0
 
 -- a write is open: its trees are in slots of their own, which are hidden with the free ones
-pub record Opened (r : Editor) (order : List ℕ) : Type 0 where
+pub record Opened (r : Record) (order : List ℕ) : Type 0 where
   pub from : r .«open» ≤ 2
   pub room : r .aside + r .stacked ≤ 63
   pub used : All (Used r) (takenOf r order)
@@ -161,23 +161,23 @@ pub record Opened (r : Editor) (order : List ℕ) : Type 0 where
   pub hidden : digits 64 (r .hidden) ≡ marked (takenOf r order) (digits 64 (r .free))
 
 -- the layout's rules of the write
-pub record Ordered (r : Editor) (order : List ℕ) : Type 0 where
+pub record Ordered (r : Record) (order : List ℕ) : Type 0 where
   pub order-64 : length order ≡ 64
   pub closed : r .«open» ≡ 0 → Closed r
   pub opened : (r .«open» ≡ 0 → ⊥) → Opened r order
 
 -- the store holds an editor
-pub record Holds (F : Format) (r : Editor) (plens paths tlens trees order : List ℕ) : Type 0 where
+pub record Holds (F : Format) (r : Record) (plens paths tlens trees order : List ℕ) : Type 0 where
   pub laid : Laid (F .width) r plens paths tlens trees
   pub ordered : Ordered r order
   pub valid : valid F (editorOf (F .width) r plens paths tlens trees order) ≡ true
 
 -- the record of a store with no tree and no write
-abbrev pub fresh : Editor
+abbrev pub fresh : Record
 fresh = record { free = 0xffff_ffff_ffff_ffff; hidden = 0xffff_ffff_ffff_ffff; paths = 0; trees = 0; entries = 0; names = 0; «open» = 0; aside = 0; stacked = 0; asked = 0 }
 
 -- the numbers of the open write are as they were
-pub record SameWrite (r q : Editor) : Type 0 where
+pub record SameWrite (r q : Record) : Type 0 where
   pub «open» : q .«open» ≡ r .«open»
   pub aside : q .aside ≡ r .aside
   pub stacked : q .stacked ≡ r .stacked

@@ -17,7 +17,7 @@ use store_runs::runs::Found;
 // `open` is 0 where no write is open, 1 for one from the root and 2 for one from a cursor; `aside` and `stacked` count its trees, and `asked` is
 // the slot of the requested one.
 #[repr(C)]
-pub struct Editor {
+pub struct Record {
     pub free: u64,
     pub hidden: u64,
     pub paths: usize,
@@ -33,11 +33,11 @@ pub struct Editor {
 // A slot that was taken, and the record then.
 pub struct Taken {
     pub slot: usize,
-    pub editor: Editor,
+    pub editor: Record,
 }
 
 // The slot of the cached tree at a path.
-pub fn find(r: Editor, plens: &[u64], paths: &[u8], path: &[u8]) -> Found
+pub fn find(r: Record, plens: &[u64], paths: &[u8], path: &[u8]) -> Found
     requires { ⌜ Sound (now plens) (now paths) (r .paths) × (length (now plens) ≡ 64) ⌝ }
     ensures { λ f. ⌜ ((w : ℕ) (runs : List Bytes) → length runs ≡ 64 → SlotIs w (digits 64 (r .hidden)) (cut (now (plens .entry)) (now (paths .entry))) runs (now (path .entry)) f) ⌝ }
 {
@@ -48,14 +48,14 @@ pub fn find(r: Editor, plens: &[u64], paths: &[u8], path: &[u8]) -> Found
 
 // Drops the tree in a slot.
 pub fn drop_slot(
-    r: Editor,
+    r: Record,
     plens: &mut [u64],
     paths: &mut [u8],
     tlens: &mut [u64],
     trees: &mut [u8],
     width: usize,
     k: usize,
-) -> Editor
+) -> Record
     requires { ⌜ Laid width r (now plens) (now paths) (now tlens) (now trees) × (width ≤ 64) × Used r k ⌝ }
     ensures view { λ q. ⌜ viewOf width q (now (plens .exit)) (now (paths .exit)) (now (tlens .exit)) (now (trees .exit))
         ≡ del at (pathOf (now (plens .entry)) (now (paths .entry)) k) (viewOf width r (now (plens .entry)) (now (paths .entry)) (now (tlens .entry)) (now (trees .entry))) ⌝ }
@@ -78,7 +78,7 @@ pub fn drop_slot(
     let t = store_runs::runs::remove(tlens, trees, nt, k, 0, m);
     let f = store_runs::free::give(map, k);
     let h = store_runs::free::mark(hid, k);
-    Editor {
+    Record {
         free: f,
         hidden: h,
         paths: p,
@@ -91,7 +91,7 @@ pub fn drop_slot(
 
 // Caches an empty tree under a path that has none, in the first free slot.
 pub fn add_empty(
-    r: Editor,
+    r: Record,
     plens: &mut [u64],
     paths: &mut [u8],
     tlens: &[u64],
@@ -117,7 +117,7 @@ pub fn add_empty(
     let f = store_runs::free::take(map, k);
     Taken {
         slot: k,
-        editor: Editor {
+        editor: Record {
             free: f,
             hidden: f,
             paths: p,
@@ -133,7 +133,7 @@ pub fn drop_all(
     tlens: &mut [u64],
     trees: &[u8],
     width: usize,
-) -> Editor
+) -> Record
     requires { ⌜ (length (now plens) ≡ 64) × (length (now tlens) ≡ 64) × (length (now paths) ≡ 8192) × (length (now trees) ≡ treeRoom width) ⌝ }
     ensures view { λ r. ⌜ viewOf width r (now (plens .exit)) (now (paths .entry)) (now (tlens .exit)) (now (trees .entry)) ≡ [] ⌝ }
     ensures laid { λ r. ⌜ Laid width r (now (plens .exit)) (now (paths .entry)) (now (tlens .exit)) (now (trees .entry)) ⌝ }
@@ -141,7 +141,7 @@ pub fn drop_all(
 {
     store_runs::runs::clear(plens);
     store_runs::runs::clear(tlens);
-    Editor {
+    Record {
         free: 0xffff_ffff_ffff_ffff,
         hidden: 0xffff_ffff_ffff_ffff,
         paths: 0,

@@ -18,7 +18,7 @@ use Rattle.store_slots.proofs.Marked.{marked-other}
 use Rattle.store_runs.specs.Digits.{digits}
 use Rattle.store_runs.proofs.DigitLaws.{length-digits, digit-same, digit-zero}
 use Rattle.store_slots.specs.View.{Laid, Used, SameWrite, marked}
-use Rattle.store_slots.specs.declared.Editor.{Editor}
+use Rattle.store_slots.specs.declared.Record.{Record}
 use Rattle.store_taken.specs.Taken.{Marks, Between, SameTree, either, joined, markIf}
 use Rattle.store_taken.proofs.Marking.{marked-here, not-marked, all-has}
 use Rattle.store_taken.proofs.Steps.{used-same, open-between}
@@ -70,14 +70,14 @@ stays-free n gone k h e = go (eqb (getD (digits 64 n) k 0) 1) refl (eqb (getD (d
 
 -- ---- the loop
 
-pub record Dropping (w : ℕ) (gone : ℕ) (r : Editor) (plens paths tlens trees : List ℕ) (k : ℕ) (q : Editor) (plens′ paths′ tlens′ trees′ : List ℕ) : Type 0 where
+pub record Dropping (w : ℕ) (gone : ℕ) (r : Record) (plens paths tlens trees : List ℕ) (k : ℕ) (q : Record) (plens′ paths′ tlens′ trees′ : List ℕ) : Type 0 where
   pub within : k ≤ 64
   pub laid : Laid w q plens′ paths′ tlens′ trees′
   pub free : digits 64 (q .free) ≡ joined (take k (digits 64 gone)) (digits 64 (r .free))
   pub others : (j : ℕ) → getD (digits 64 gone) j 0 ≡ 0 → SameTree plens paths tlens trees plens′ paths′ tlens′ trees′ j
   pub same : SameWrite r q
 
-pub dropping-none : (w gone : ℕ) (r : Editor) (plens paths tlens trees : List ℕ) → Laid w r plens paths tlens trees → Dropping w gone r plens paths tlens trees 0 r plens paths tlens trees
+pub dropping-none : (w gone : ℕ) (r : Record) (plens paths tlens trees : List ℕ) → Laid w r plens paths tlens trees → Dropping w gone r plens paths tlens trees 0 r plens paths tlens trees
 unfolding joined
 dropping-none w gone r plens paths tlens trees L = record {
   within = omega arith;
@@ -87,8 +87,8 @@ dropping-none w gone r plens paths tlens trees L = record {
   same = record { «open» = refl; aside = refl; stacked = refl; asked = refl };
 }
 
-module _ {w gone : ℕ} {r : Editor} {plens paths tlens trees : List ℕ} {k : ℕ} {q : Editor} {plens′ paths′ tlens′ trees′ : List ℕ} (d : Dropping w gone r plens paths tlens trees k q plens′ paths′ tlens′ trees′) where
-  pub dropping-more : (s : Editor) (pl pb tl tb : List ℕ) → k < 64 → Laid w s pl pb tl tb → ((j : ℕ) → getD (digits 64 gone) j 0 ≡ 0 → SameTree plens′ paths′ tlens′ trees′ pl pb tl tb j) →
+module _ {w gone : ℕ} {r : Record} {plens paths tlens trees : List ℕ} {k : ℕ} {q : Record} {plens′ paths′ tlens′ trees′ : List ℕ} (d : Dropping w gone r plens paths tlens trees k q plens′ paths′ tlens′ trees′) where
+  pub dropping-more : (s : Record) (pl pb tl tb : List ℕ) → k < 64 → Laid w s pl pb tl tb → ((j : ℕ) → getD (digits 64 gone) j 0 ≡ 0 → SameTree plens′ paths′ tlens′ trees′ pl pb tl tb j) →
       digits 64 (s .free) ≡ markIf (getD (digits 64 gone) k 0) (digits 64 (q .free)) k → SameWrite q s → Dropping w gone r plens paths tlens trees (k + 1) s pl pb tl tb
   dropping-more s pl pb tl tb h L o ef sw = record {
     within = omega arith;
@@ -104,7 +104,7 @@ module _ {w gone : ℕ} {r : Editor} {plens paths tlens trees : List ℕ} {k : �
 
 -- ---- one taken slot is left
 
-module _ (r : Editor) (ks : List ℕ) (m : Marks r ks) (k : ℕ) (i : has k ks ≡ true) where
+module _ (r : Record) (ks : List ℕ) (m : Marks r ks) (k : ℕ) (i : has k ks ≡ true) where
   pub left-used : Used r k
   left-used = all-has (Used r) ks k (m .used) i
 
@@ -119,7 +119,7 @@ module _ (r : Editor) (ks : List ℕ) (m : Marks r ks) (k : ℕ) (i : has k ks �
     pub left-self : getD (digits 64 gone) k 0 ≡ 0
     left-self = ap (λ (x : List ℕ). getD x k 0) eg ∙ getD-set-same (digits 64 (r .hidden)) k 0 0 (omega (arith, left-used .low, length-digits 64 (r .hidden)))
 
-    module _ (q : Editor) (ef : digits 64 (q .free) ≡ joined (digits 64 gone) (digits 64 (r .free))) where
+    module _ (q : Record) (ef : digits 64 (q .free) ≡ joined (digits 64 gone) (digits 64 (r .free))) where
       free-at : (j : ℕ) → j < 64 → getD (digits 64 (q .free)) j 0 ≡ either (getD (digits 64 gone) j 0) (getD (digits 64 (r .free)) j 0)
       free-at j h = ap (λ (x : List ℕ). getD x j 0) ef ∙ joined-at (digits 64 gone) (digits 64 (r .free)) j (omega (arith, length-digits 64 gone)) (omega (arith, length-digits 64 (r .free)))
 
@@ -150,9 +150,9 @@ module _ (r : Editor) (ks : List ℕ) (m : Marks r ks) (k : ℕ) (i : has k ks �
               ∙ ap (λ (x : ℕ). either x (getD (digits 64 (r .free)) j 0)) (sym (ap (λ (x : List ℕ). getD x j 0) eg ∙ getD-set-other (digits 64 (r .hidden)) k j 0 0 n))
               ∙ sym (free-at j h) ∙ sym (getD-set-other (digits 64 (q .free)) k j 1 0 n)
 
-      pub left-between : (s : Editor) → s .free ≡ q .free → s .hidden ≡ r .hidden → 1 ≤ s .«open» → s .«open» ≤ 2 → s .aside ≡ 0 → s .stacked ≡ 0 → (order : List ℕ) → length order ≡ 64 → Between s order (k ∷ [])
+      pub left-between : (s : Record) → s .free ≡ q .free → s .hidden ≡ r .hidden → 1 ≤ s .«open» → s .«open» ≤ 2 → s .aside ≡ 0 → s .stacked ≡ 0 → (order : List ℕ) → length order ≡ 64 → Between s order (k ∷ [])
       left-between s fs hs low from ea es order l =
-          let z : Editor = record { free = s .free; hidden = s .free; paths = s .paths; trees = s .trees; entries = s .entries; names = s .names; «open» = s .«open»; aside = s .aside; stacked = s .stacked; asked = s .asked } in
+          let z : Record = record { free = s .free; hidden = s .free; paths = s .paths; trees = s .trees; entries = s .entries; names = s .names; «open» = s .«open»; aside = s .aside; stacked = s .stacked; asked = s .asked } in
           open-between z k refl (used-same q z fs k left-still) s refl (ap (digits 64) hs ∙ left-only ∙ ap (λ (x : ℕ). set (digits 64 x) k 1) (sym fs)) ea es low from order l
 
 -- ---- the start tree

@@ -17,7 +17,7 @@ use Rattle.store_runs.specs.Runs.{cut}
 use Rattle.store_runs.proofs.DigitLaws.{length-digits, digit-same}
 use Rattle.store_runs.proofs.Laws.{length-cut}
 use Rattle.store_slots.specs.View.{slotsOf, gather, heldIn, Laid, Used, SameWrite, marked, allDifferent, heldAt, cachedOf, asideOf, stackedOf, Ordered, Closed}
-use Rattle.store_slots.specs.declared.Editor.{Editor}
+use Rattle.store_slots.specs.declared.Record.{Record}
 use Rattle.store_taken.specs.Taken.{goingOf, Marks, Between, SameTree}
 use Rattle.store_taken.proofs.Marking.{marked-set, all-other, all-left, all-right, all-both, map-same}
 use Rattle.store_taken.proofs.Shown.{show-view, shown-same}
@@ -37,7 +37,7 @@ module _ (w : ℕ) (plens paths tlens trees plens′ paths′ tlens′ trees′ 
   held-same k s = ap₂ (λ (x y : Bytes). heldIn w x y) (s .path) (s .run)
 
   -- the cache, where the cached slots hold what they held
-  pub cached-same : (r q : Editor) → Wide plens tlens plens′ tlens′ → digits 64 (q .hidden) ≡ digits 64 (r .hidden) →
+  pub cached-same : (r q : Record) → Wide plens tlens plens′ tlens′ → digits 64 (q .hidden) ≡ digits 64 (r .hidden) →
       ((k : ℕ) → k < 64 → getD (digits 64 (r .hidden)) k 0 ≡ 0 → SameTree plens paths tlens trees plens′ paths′ tlens′ trees′ k) →
       cachedOf w q plens′ paths′ tlens′ trees′ ≡ cachedOf w r plens paths tlens trees
   cached-same r q v e f =
@@ -54,7 +54,7 @@ module _ (w : ℕ) (plens paths tlens trees plens′ paths′ tlens′ trees′ 
 
 -- ---- the tree in hand is dropped
 
-module _ (r : Editor) (order : List ℕ) (k : ℕ) (b : Between r order (k ∷ [])) where
+module _ (r : Record) (order : List ℕ) (k : ℕ) (b : Between r order (k ∷ [])) where
   abbrev rest : List ℕ
   rest = take (r .aside) order ++ drop (64 - r .stacked) order
 
@@ -71,7 +71,7 @@ module _ (r : Editor) (order : List ℕ) (k : ℕ) (b : Between r order (k ∷ [
   pub dropped-hidden : (x : List ℕ) → x ≡ set (digits 64 (r .hidden)) k 1 → x ≡ digits 64 (r .hidden)
   dropped-hidden x e = e ∙ sym (digit-same (digits 64 (r .hidden)) k hand-hidden)
 
-  pub dropped-between : (q : Editor) → digits 64 (q .free) ≡ set (digits 64 (r .free)) k 1 → digits 64 (q .hidden) ≡ digits 64 (r .hidden) → SameWrite r q → Between q order []
+  pub dropped-between : (q : Record) → digits 64 (q .free) ≡ set (digits 64 (r .free)) k 1 → digits 64 (q .hidden) ≡ digits 64 (r .hidden) → SameWrite r q → Between q order []
   unfolding marked
   dropped-between q ef eh s =
       let m : Marks q rest = record {
@@ -88,7 +88,7 @@ module _ (r : Editor) (order : List ℕ) (k : ℕ) (b : Between r order (k ∷ [
         marks = subst (Marks q) (ap₂ (λ (x y : ℕ). take x order ++ drop (64 - y) order) (sym (s .aside)) (sym (s .stacked))) m;
       }
 
-  pub dropped-going : (q : Editor) (w : ℕ) (plens paths tlens trees plens′ paths′ tlens′ trees′ : List ℕ) → Wide plens tlens plens′ tlens′ → digits 64 (q .hidden) ≡ digits 64 (r .hidden) → SameWrite r q →
+  pub dropped-going : (q : Record) (w : ℕ) (plens paths tlens trees plens′ paths′ tlens′ trees′ : List ℕ) → Wide plens tlens plens′ tlens′ → digits 64 (q .hidden) ≡ digits 64 (r .hidden) → SameWrite r q →
       ((j : ℕ) → (j ≡ k → ⊥) → SameTree plens paths tlens trees plens′ paths′ tlens′ trees′ j) →
       goingOf w q plens′ paths′ tlens′ trees′ order ≡ goingOf w r plens paths tlens trees order
   dropped-going q w plens paths tlens trees plens′ paths′ tlens′ trees′ v eh s o =
@@ -112,5 +112,5 @@ module _ (r : Editor) (order : List ℕ) (k : ℕ) (b : Between r order (k ∷ [
       show-view k w (digits 64 (r .free)) (cut plens paths) (cut tlens trees) (omega (arith, d, b .marks .used .0 .low)) (length-cut plens paths ∙ L .plens-64 ∙ sym d) (length-cut tlens trees ∙ L .tlens-64 ∙ sym d) (b .marks .used .0 .used) (L .apart)
       ∙ ap (λ (x : List ℕ). put at (heldAt w plens paths tlens trees k) (gather (slotsOf w x (cut plens paths) (cut tlens trees)))) (sym hid)
 
-pub closed-ordered : (q : Editor) (order : List ℕ) → length order ≡ 64 → q .«open» ≡ 0 → Closed q → Ordered q order
+pub closed-ordered : (q : Record) (order : List ℕ) → length order ≡ 64 → q .«open» ≡ 0 → Closed q → Ordered q order
 closed-ordered q order l z c = record { order-64 = l; closed = λ y. c; opened = λ n. absurd (n z) }

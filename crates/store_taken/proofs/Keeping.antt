@@ -19,7 +19,7 @@ use Rattle.store_runs.proofs.FindLaws.{cut-at}
 use Rattle.store_runs.proofs.Laws.{length-cut, cut-none, total-none, total-within}
 use Rattle.names_compact.specs.Compact.{packedAll, unpackIn, unpack}
 use Rattle.store_slots.specs.View.{slotsOf, slots, gather, viewOf, heldIn, Laid, heldAt, treeOf}
-use Rattle.store_slots.specs.declared.Editor.{Editor}
+use Rattle.store_slots.specs.declared.Record.{Record}
 use Rattle.store_taken.specs.Taken.{SameTree}
 
 -- ---- one run of all is left
@@ -85,7 +85,7 @@ one-shown w (suc n) (suc k) (p ∷ ps) (b ∷ bs) h l r = one-shown w n k ps bs 
 
 -- ---- the layout's rules
 
-module _ (w : ℕ) (r : Editor) (plens paths tlens trees : List ℕ) (L : Laid w r plens paths tlens trees) (k : ℕ) (low : k < 64) (q : Editor) (plens′ paths′ tlens′ trees′ : List ℕ)
+module _ (w : ℕ) (r : Record) (plens paths tlens trees : List ℕ) (L : Laid w r plens paths tlens trees) (k : ℕ) (low : k < 64) (q : Record) (plens′ paths′ tlens′ trees′ : List ℕ)
     (cp : cut plens′ paths′ ≡ sole k (getD (cut plens paths) k [])) (ct : cut tlens′ trees′ ≡ sole k (getD (cut tlens trees) k [])) (pl : length plens′ ≡ 64) (tl : length tlens′ ≡ 64)
     (ef : digits 64 (q .free) ≡ set (digits 64 0xffff_ffff_ffff_ffff) k 0) where
   in-range : k < length (replicate {A = Bytes} 64 [])

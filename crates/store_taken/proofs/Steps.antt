@@ -22,18 +22,18 @@ use Rattle.store_runs.specs.Runs.{cut, Sound, total}
 use Rattle.store_runs.proofs.DigitLaws.{length-digits}
 use Rattle.store_runs.proofs.Laws.{length-cut}
 use Rattle.store_slots.specs.View.{slotsOf, gather, Laid, Used, marked, heldAt, cachedOf, asideOf, stackedOf, writeOf, Opened, Ordered}
-use Rattle.store_slots.specs.declared.Editor.{Editor}
+use Rattle.store_slots.specs.declared.Record.{Record}
 use Rattle.store_taken.specs.Taken.{goingOf, stackedOn, keptOn, takenOff, writingOf, Marks, allTaken, Between, Cached, SameSlots}
 use Rattle.store_taken.proofs.Marking.{marked-mid, different-mid, all-front, all-mid, Low, not-marked, Unset, total-marked, total-below}
 use Rattle.store_taken.proofs.Shown.{hide-view, marked-apart}
 
 -- ---- the record's other fields
 
-pub used-same : (r q : Editor) → q .free ≡ r .free → (k : ℕ) → Used r k → Used q k
+pub used-same : (r q : Record) → q .free ≡ r .free → (k : ℕ) → Used r k → Used q k
 used-same r q e k u = record { low = u .low; used = ap (λ (x : ℕ). getD (digits 64 x) k 0) e ∙ u .used }
 
 -- the layout's rules do not speak of the write
-pub laid-same : (w : ℕ) (r q : Editor) (plens paths tlens trees : List ℕ) → SameSlots r q → Laid w r plens paths tlens trees → Laid w q plens paths tlens trees
+pub laid-same : (w : ℕ) (r q : Record) (plens paths tlens trees : List ℕ) → SameSlots r q → Laid w r plens paths tlens trees → Laid w q plens paths tlens trees
 laid-same w r q plens paths tlens trees s L =
     record {
       plens-64 = L .plens-64;
@@ -58,7 +58,7 @@ laid-same w r q plens paths tlens trees s L =
 
 -- ---- the marked slots
 
-pub marks-front : (r : Editor) (a : List ℕ) (k : ℕ) (b : List ℕ) → Marks r (a ++ (k ∷ b)) → Marks r (k ∷ (a ++ b))
+pub marks-front : (r : Record) (a : List ℕ) (k : ℕ) (b : List ℕ) → Marks r (a ++ (k ∷ b)) → Marks r (k ∷ (a ++ b))
 unfolding marked
 marks-front r a k b m = record {
   used = all-front (Used r) a k b (m .used);
@@ -66,7 +66,7 @@ marks-front r a k b m = record {
   hidden = m .hidden ∙ marked-mid (digits 64 (r .free)) a k b;
 }
 
-pub marks-mid : (r : Editor) (a : List ℕ) (k : ℕ) (b : List ℕ) → Marks r (k ∷ (a ++ b)) → Marks r (a ++ (k ∷ b))
+pub marks-mid : (r : Record) (a : List ℕ) (k : ℕ) (b : List ℕ) → Marks r (k ∷ (a ++ b)) → Marks r (a ++ (k ∷ b))
 unfolding marked
 marks-mid r a k b m = record {
   used = all-mid (Used r) a k b (m .used);
@@ -75,25 +75,25 @@ marks-mid r a k b m = record {
 }
 
 -- the same slots under another record
-pub marks-same : (r q : Editor) (ks ls : List ℕ) → q .free ≡ r .free → q .hidden ≡ r .hidden → ls ≡ ks → Marks r ks → Marks q ls
+pub marks-same : (r q : Record) (ks ls : List ℕ) → q .free ≡ r .free → q .hidden ≡ r .hidden → ls ≡ ks → Marks r ks → Marks q ls
 marks-same r q ks ls ef eh el m = subst (Marks q) (sym el) (record {
   used = all-map (Used r) (Used q) (used-same r q ef) ks (m .used);
   apart = m .apart;
   hidden = ap (digits 64) eh ∙ m .hidden ∙ ap (λ (x : ℕ). marked ks (digits 64 x)) (sym ef);
 })
 
-pub low-used : (r : Editor) (ks : List ℕ) → All (Used r) ks → All (Low (digits 64 (r .free))) ks
+pub low-used : (r : Record) (ks : List ℕ) → All (Used r) ks → All (Low (digits 64 (r .free))) ks
 low-used r ks a = all-map (Used r) (Low (digits 64 (r .free))) (λ k u. omega (arith, u .low, length-digits 64 (r .free))) ks a
 
 -- a cached slot is used and none of those taken
-pub cached-used : (r : Editor) (ks : List ℕ) → Marks r ks → (k : ℕ) → Cached r k → Used r k × (has k ks ≡ false)
+pub cached-used : (r : Record) (ks : List ℕ) → Marks r ks → (k : ℕ) → Cached r k → Used r k × (has k ks ≡ false)
 cached-used r ks m k c =
     let l = length-digits 64 (r .free) in
     let n = not-marked ks (digits 64 (r .free)) k (omega (arith, l, c .low)) (ap (λ (x : List ℕ). getD x k 0) (sym (m .hidden)) ∙ c .shown) in
     (record { low = c .low; used = sym (marked-other k ks (digits 64 (r .free)) n) ∙ ap (λ (x : List ℕ). getD x k 0) (sym (m .hidden)) ∙ c .shown }, n)
 
 -- one more is marked
-pub marks-more : (r q : Editor) (ks : List ℕ) (k : ℕ) → Marks r ks → Used r k → has k ks ≡ false → q .free ≡ r .free → digits 64 (q .hidden) ≡ set (digits 64 (r .hidden)) k 1 → Marks q (k ∷ ks)
+pub marks-more : (r q : Record) (ks : List ℕ) (k : ℕ) → Marks r ks → Used r k → has k ks ≡ false → q .free ≡ r .free → digits 64 (q .hidden) ≡ set (digits 64 (r .hidden)) k 1 → Marks q (k ∷ ks)
 unfolding marked
 marks-more r q ks k m u n ef eh = record {
   used = (used-same r q ef k u, all-map (Used r) (Used q) (used-same r q ef) ks (m .used));
@@ -102,14 +102,14 @@ marks-more r q ks k m u n ef eh = record {
 }
 
 -- while a slot is cached, fewer than all are taken
-pub marks-room : (r : Editor) (ks : List ℕ) → Marks r ks → (k : ℕ) → Cached r k → length ks < 64
+pub marks-room : (r : Record) (ks : List ℕ) → Marks r ks → (k : ℕ) → Cached r k → length ks < 64
 marks-room r ks m k c =
     let u : All (Unset (digits 64 (r .free))) ks = all-map (Used r) (Unset (digits 64 (r .free))) (λ j v. (omega (arith, v .low, length-digits 64 (r .free)), v .used)) ks (m .used) in
     omega (arith, total-marked ks (digits 64 (r .free)) u (m .apart), ap total (m .hidden), total-below 64 (r .hidden) k (c .low) (c .shown))
 
 -- ---- the table
 
-length-taken : (r : Editor) (order hand : List ℕ) → Between r order hand → length (allTaken r order hand) ≡ r .aside + r .stacked + length hand
+length-taken : (r : Record) (order hand : List ℕ) → Between r order hand → length (allTaken r order hand) ≡ r .aside + r .stacked + length hand
 length-taken r order hand b =
     omega (
       arith,
@@ -121,7 +121,7 @@ length-taken r order hand b =
       b .order-64,
     )
 
-pub room-more : (r : Editor) (order hand : List ℕ) → Between r order hand → (k : ℕ) → Cached r k → r .aside + r .stacked + length hand < 64
+pub room-more : (r : Record) (order hand : List ℕ) → Between r order hand → (k : ℕ) → Cached r k → r .aside + r .stacked + length hand < 64
 room-more r order hand b k c = omega (arith, length-taken r order hand b, marks-room r (allTaken r order hand) (b .marks) k c)
 
 -- the back of the table with one more, and one fewer
@@ -159,7 +159,7 @@ kept-more f a k = ap reverse (map-append f a (k ∷ [])) ∙ reverse-snoc (map f
 
 -- ---- the steps
 
-module _ (r : Editor) (order hand : List ℕ) (b : Between r order hand) where
+module _ (r : Record) (order hand : List ℕ) (b : Between r order hand) where
   abbrev A : List ℕ
   A = take (r .aside) order
 
@@ -175,7 +175,7 @@ module _ (r : Editor) (order hand : List ℕ) (b : Between r order hand) where
       (low-used r (allTaken r order hand) (b .marks .used)) (L .apart)
 
   -- a cached slot is stacked
-  module _ (k : ℕ) (c : Cached r k) (q : Editor) (ef : q .free ≡ r .free) (eh : digits 64 (q .hidden) ≡ set (digits 64 (r .hidden)) k 1) (eo : q .«open» ≡ r .«open») (ea : q .aside ≡ r .aside) (es : q .stacked ≡ r .stacked + 1) where
+  module _ (k : ℕ) (c : Cached r k) (q : Record) (ef : q .free ≡ r .free) (eh : digits 64 (q .hidden) ≡ set (digits 64 (r .hidden)) k 1) (eo : q .«open» ≡ r .«open») (ea : q .aside ≡ r .aside) (es : q .stacked ≡ r .stacked + 1) where
     abbrev order′ : List ℕ
     order′ = set order (64 - (r .stacked + 1)) k
 
@@ -209,7 +209,7 @@ module _ (r : Editor) (order hand : List ℕ) (b : Between r order hand) where
         ∙ ap (λ (y : List ℕ). record { cache = del at (getD (cut plens paths) k []) (cachedOf w r plens paths tlens trees); stack = map (heldAt w plens paths tlens trees) (k ∷ S); kept = reverse (map (heldAt w plens paths tlens trees) y) }) stack-front
 
 -- what the record of a step that moves a slot says
-pub record Moved (r q : Editor) (n m : ℕ) : Type 0 where
+pub record Moved (r q : Record) (n m : ℕ) : Type 0 where
   pub free : q .free ≡ r .free
   pub hidden : q .hidden ≡ r .hidden
   pub «open» : q .«open» ≡ r .«open»
@@ -217,8 +217,8 @@ pub record Moved (r q : Editor) (n m : ℕ) : Type 0 where
   pub stacked : q .stacked ≡ m
 
 -- nothing is in hand: the top of the stack or the latest set aside is taken
-module _ (r : Editor) (order : List ℕ) (b : Between r order []) where
-  module _ (q : Editor) (m : Moved r q (r .aside) (r .stacked - 1)) (p : 0 < r .stacked) where
+module _ (r : Record) (order : List ℕ) (b : Between r order []) where
+  module _ (q : Record) (m : Moved r q (r .aside) (r .stacked - 1)) (p : 0 < r .stacked) where
     abbrev top : ℕ
     top = getD order (64 - r .stacked) 0
 
@@ -242,7 +242,7 @@ module _ (r : Editor) (order : List ℕ) (b : Between r order []) where
         ap₂ (λ (x y : ℕ). record { cache = gather (slotsOf w (digits 64 x) (cut plens paths) (cut tlens trees)); stack = stackedOf w r plens paths tlens trees order; kept = reverse (map (heldAt w plens paths tlens trees) (take y order)) }) (sym (m .hidden)) (sym (m .aside))
         ∙ ap (λ (x : List ℕ). record { cache = cachedOf w q plens paths tlens trees; stack = map (heldAt w plens paths tlens trees) x; kept = asideOf w q plens paths tlens trees order }) top-back
 
-  module _ (q : Editor) (m : Moved r q (r .aside - 1) (r .stacked)) (p : 0 < r .aside) where
+  module _ (q : Record) (m : Moved r q (r .aside - 1) (r .stacked)) (p : 0 < r .aside) where
     abbrev last : ℕ
     last = getD order (r .aside - 1) 0
 
@@ -275,8 +275,8 @@ opened-editor zero z h g = absurd (z refl)
 opened-editor (suc n) z h g = refl
 
 -- one is in hand: it is set aside, or requested
-module _ (r : Editor) (order : List ℕ) (k : ℕ) (b : Between r order (k ∷ [])) where
-  module _ (q : Editor) (m : Moved r q (r .aside + 1) (r .stacked)) where
+module _ (r : Record) (order : List ℕ) (k : ℕ) (b : Between r order (k ∷ [])) where
+  module _ (q : Record) (m : Moved r q (r .aside + 1) (r .stacked)) where
     abbrev set-order : List ℕ
     set-order = set order (r .aside) k
 
@@ -304,14 +304,14 @@ module _ (r : Editor) (order : List ℕ) (k : ℕ) (b : Between r order (k ∷ [
         (ap (λ (x : List ℕ). reverse (map (heldAt w plens paths tlens trees) x)) aside-front ∙ kept-more (heldAt w plens paths tlens trees) (take (r .aside) order) k)
 
   -- the open write with this tree requested
-  pub ask-opened : (q : Editor) → Moved r q (r .aside) (r .stacked) → q .asked ≡ k → Opened q order
+  pub ask-opened : (q : Record) → Moved r q (r .aside) (r .stacked) → q .asked ≡ k → Opened q order
   ask-opened q m e =
       let n : Marks q (q .asked ∷ (take (q .aside) order ++ drop (64 - q .stacked) order)) =
       marks-same r q (k ∷ (take (r .aside) order ++ drop (64 - r .stacked) order)) (q .asked ∷ (take (q .aside) order ++ drop (64 - q .stacked) order)) (m .free) (m .hidden)
       (ap₂ (λ (x y : ℕ). x ∷ (take y order ++ drop (64 - q .stacked) order)) e (m .aside) ∙ ap (λ (x : ℕ). k ∷ (take (r .aside) order ++ drop (64 - x) order)) (m .stacked)) (b .marks) in
       record { from = omega (arith, m .«open», b .from); room = omega (arith, m .aside, m .stacked, b .room); used = n .used; apart = n .apart; hidden = n .hidden }
 
-  pub ask-ordered : (q : Editor) → Moved r q (r .aside) (r .stacked) → q .asked ≡ k → Ordered q order
+  pub ask-ordered : (q : Record) → Moved r q (r .aside) (r .stacked) → q .asked ≡ k → Ordered q order
   ask-ordered q m e = record {
     order-64 = b .order-64;
     closed = λ z. absurd (b .under-way (sym (m .«open») ∙ z));
@@ -325,7 +325,7 @@ module _ (r : Editor) (order : List ℕ) (k : ℕ) (b : Between r order (k ∷ [
   ask-editor w plens paths tlens trees = opened-editor (r .«open») (b .under-way) (heldAt w plens paths tlens trees k) (goingOf w r plens paths tlens trees order)
 
 -- an open write has its requested tree in hand
-pub asked-in-hand : (r : Editor) (order : List ℕ) → Ordered r order → (r .«open» ≡ 0 → ⊥) → Between r order (r .asked ∷ [])
+pub asked-in-hand : (r : Record) (order : List ℕ) → Ordered r order → (r .«open» ≡ 0 → ⊥) → Between r order (r .asked ∷ [])
 asked-in-hand r order o n =
     let p = o .opened n in
     record {
@@ -338,7 +338,7 @@ asked-in-hand r order o n =
 
 -- ---- a write is opened
 
-module _ (r : Editor) (k : ℕ) (e : r .hidden ≡ r .free) (u : Used r k) (q : Editor) (ef : q .free ≡ r .free) (eh : digits 64 (q .hidden) ≡ set (digits 64 (r .hidden)) k 1) (ea : q .aside ≡ 0) (es : q .stacked ≡ 0) where
+module _ (r : Record) (k : ℕ) (e : r .hidden ≡ r .free) (u : Used r k) (q : Record) (ef : q .free ≡ r .free) (eh : digits 64 (q .hidden) ≡ set (digits 64 (r .hidden)) k 1) (ea : q .aside ≡ 0) (es : q .stacked ≡ 0) where
   only : (order : List ℕ) → length order ≡ 64 → allTaken q order (k ∷ []) ≡ k ∷ []
   only order l = ap₂ (λ (x y : ℕ). k ∷ (take x order ++ drop (64 - y) order)) ea es ∙ ap (λ (x : List ℕ). k ∷ x) (drop-of-length-le order {i = 64 - 0} (omega (arith, l)))
 

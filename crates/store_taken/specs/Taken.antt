@@ -12,10 +12,10 @@ use Rattle.model.specs.Write.{Going, bottom, writeOf}
 use Rattle.store_runs.specs.Digits.{digits}
 use Rattle.store_runs.specs.Runs.{cut}
 use Rattle.store_slots.specs.View.{cachedOf, stackedOf, asideOf, startOf, Used, marked, allDifferent}
-use Rattle.store_slots.specs.declared.Editor.{Editor}
+use Rattle.store_slots.specs.declared.Record.{Record}
 
 -- the cache, and the trees stacked and set aside
-abbrev pub goingOf : ℕ → Editor → List ℕ → List ℕ → List ℕ → List ℕ → List ℕ → Going
+abbrev pub goingOf : ℕ → Record → List ℕ → List ℕ → List ℕ → List ℕ → List ℕ → Going
 goingOf w r plens paths tlens trees order =
     record {
       cache = cachedOf w r plens paths tlens trees;
@@ -38,17 +38,17 @@ abbrev pub writingOf : ℕ → Held → Going → Model
 writingOf n h g = writeOf (startOf n (bottom h (g .kept) .path)) (record { rest = g; ask = h })
 
 -- these are different used slots, and just they and the free ones are hidden
-pub record Marks (r : Editor) (ks : List ℕ) : Type 0 where
+pub record Marks (r : Record) (ks : List ℕ) : Type 0 where
   pub used : All (Used r) ks
   pub apart : allDifferent ks ≡ true
   pub hidden : digits 64 (r .hidden) ≡ marked ks (digits 64 (r .free))
 
 -- the slots that the write has taken: those in hand, those set aside and those stacked
-abbrev pub allTaken : Editor → List ℕ → List ℕ → List ℕ
+abbrev pub allTaken : Record → List ℕ → List ℕ → List ℕ
 allTaken r order hand = hand ++ (take (r .aside) order ++ drop (64 - r .stacked) order)
 
 -- a write is open, with the trees of these slots in hand
-pub record Between (r : Editor) (order hand : List ℕ) : Type 0 where
+pub record Between (r : Record) (order hand : List ℕ) : Type 0 where
   pub order-64 : length order ≡ 64
   pub under-way : r .«open» ≡ 0 → ⊥
   pub from : r .«open» ≤ 2
@@ -56,12 +56,12 @@ pub record Between (r : Editor) (order hand : List ℕ) : Type 0 where
   pub marks : Marks r (allTaken r order hand)
 
 -- the slot k has a cached tree: it is neither free nor taken
-pub record Cached (r : Editor) (k : ℕ) : Type 0 where
+pub record Cached (r : Record) (k : ℕ) : Type 0 where
   pub low : k < 64
   pub shown : getD (digits 64 (r .hidden)) k 0 ≡ 0
 
 -- what is said of the slots is as it was
-pub record SameSlots (r q : Editor) : Type 0 where
+pub record SameSlots (r q : Record) : Type 0 where
   pub free : q .free ≡ r .free
   pub paths : q .paths ≡ r .paths
   pub trees : q .trees ≡ r .trees

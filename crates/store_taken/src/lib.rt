@@ -15,11 +15,11 @@ ghost use Rattle.store_runs.specs.Digits.{digits};
 ghost use Rattle.store_runs.specs.Runs.{cut, Sound};
 ghost use Rattle.store_slots.specs.View.{Laid, Used, Ordered, SameWrite, editorOf, heldAt, cachedOf, asideOf};
 ghost use Rattle.store_taken.specs.Taken.{goingOf, stackedOn, keptOn, takenOff, Between, Cached, SameSlots, SameTree, writingOf, allTaken, joined, markIf};
-use store_slots::Editor;
+use store_slots::Record;
 use store_slots::Taken;
 
 // Takes a cached tree off the cache and stacks it.
-pub fn stack(r: Editor, order: &mut [u64], slot: usize) -> Editor
+pub fn stack(r: Record, order: &mut [u64], slot: usize) -> Record
     requires { ⌜ ((hand : List ℕ) × Between r (now order) hand) × Cached r slot ⌝ }
     ensures going { λ q. ⌜ ((w : ℕ) (plens paths tlens trees : List ℕ) → Laid w r plens paths tlens trees →
         goingOf w q plens paths tlens trees (now (order .exit)) ≡ stackedOn (heldAt w plens paths tlens trees slot) (takenOff (heldAt w plens paths tlens trees slot) (goingOf w r plens paths tlens trees (now (order .entry))))) ⌝ }
@@ -30,7 +30,7 @@ pub fn stack(r: Editor, order: &mut [u64], slot: usize) -> Editor
     let n = r.stacked + 1;
     order[64 - n] = slot as u64;
     let h = store_runs::free::give(map, slot);
-    Editor {
+    Record {
         hidden: h,
         stacked: n,
         ..r
@@ -38,7 +38,7 @@ pub fn stack(r: Editor, order: &mut [u64], slot: usize) -> Editor
 }
 
 // Takes the next tree off the stack.
-pub fn pop(r: Editor, order: &[u64]) -> Taken
+pub fn pop(r: Record, order: &[u64]) -> Taken
     requires { ⌜ Between r (now order) [] × (0 < r .stacked) ⌝ }
     ensures going { λ t. ⌜ ((w : ℕ) (plens paths tlens trees : List ℕ) → goingOf w r plens paths tlens trees (now (order .entry))
         ≡ stackedOn (heldAt w plens paths tlens trees (t .slot)) (goingOf w (t .editor) plens paths tlens trees (now (order .entry)))) ⌝ }
@@ -49,7 +49,7 @@ pub fn pop(r: Editor, order: &[u64]) -> Taken
     let k = order[64 - n] as usize;
     Taken {
         slot: k,
-        editor: Editor {
+        editor: Record {
             stacked: n - 1,
             ..r
         },
@@ -57,7 +57,7 @@ pub fn pop(r: Editor, order: &[u64]) -> Taken
 }
 
 // Sets the tree in hand aside.
-pub fn set_aside(r: Editor, order: &mut [u64], slot: usize) -> Editor
+pub fn set_aside(r: Record, order: &mut [u64], slot: usize) -> Record
     requires { ⌜ Between r (now order) (slot ∷ []) ⌝ }
     ensures going { λ q. ⌜ ((w : ℕ) (plens paths tlens trees : List ℕ) → goingOf w q plens paths tlens trees (now (order .exit))
         ≡ keptOn (heldAt w plens paths tlens trees slot) (goingOf w r plens paths tlens trees (now (order .entry)))) ⌝ }
@@ -66,11 +66,11 @@ pub fn set_aside(r: Editor, order: &mut [u64], slot: usize) -> Editor
 {
     let n = r.aside;
     order[n] = slot as u64;
-    Editor { aside: n + 1, ..r }
+    Record { aside: n + 1, ..r }
 }
 
 // Takes the tree that was set aside last.
-pub fn latest(r: Editor, order: &[u64]) -> Taken
+pub fn latest(r: Record, order: &[u64]) -> Taken
     requires { ⌜ Between r (now order) [] × (0 < r .aside) ⌝ }
     ensures going { λ t. ⌜ ((w : ℕ) (plens paths tlens trees : List ℕ) → goingOf w r plens paths tlens trees (now (order .entry))
         ≡ keptOn (heldAt w plens paths tlens trees (t .slot)) (goingOf w (t .editor) plens paths tlens trees (now (order .entry)))) ⌝ }
@@ -81,30 +81,30 @@ pub fn latest(r: Editor, order: &[u64]) -> Taken
     let k = order[n] as usize;
     Taken {
         slot: k,
-        editor: Editor { aside: n, ..r },
+        editor: Record { aside: n, ..r },
     }
 }
 
 // Requests the tree in hand.
-pub fn ask(r: Editor, slot: usize) -> Editor
+pub fn ask(r: Record, slot: usize) -> Record
     ensures ordered { λ q. ⌜ ((order : List ℕ) → Between r order (slot ∷ []) → Ordered q order) ⌝ }
     ensures editor { λ q. ⌜ ((w : ℕ) (plens paths tlens trees order : List ℕ) → Between r order (slot ∷ []) →
         editorOf w q plens paths tlens trees order ≡ writingOf (r .«open») (heldAt w plens paths tlens trees slot) (goingOf w r plens paths tlens trees order)) ⌝ }
     ensures same { λ q. ⌜ SameSlots r q × (q .hidden ≡ r .hidden) × (q .«open» ≡ r .«open») × (q .aside ≡ r .aside) × (q .stacked ≡ r .stacked) × (q .asked ≡ slot) ⌝ }
 {
-    Editor { asked: slot, ..r }
+    Record { asked: slot, ..r }
 }
 
 // Drops the tree in hand.
 pub fn drop_taken(
-    r: Editor,
+    r: Record,
     plens: &mut [u64],
     paths: &mut [u8],
     tlens: &mut [u64],
     trees: &mut [u8],
     width: usize,
     slot: usize,
-) -> Editor
+) -> Record
     requires { ⌜ Laid width r (now plens) (now paths) (now tlens) (now trees) × (width ≤ 64) × ((order : List ℕ) × Between r order (slot ∷ [])) ⌝ }
     ensures going { λ q. ⌜ ((order : List ℕ) → Between r order (slot ∷ []) → goingOf width q (now (plens .exit)) (now (paths .exit)) (now (tlens .exit)) (now (trees .exit)) order
         ≡ goingOf width r (now (plens .entry)) (now (paths .entry)) (now (tlens .entry)) (now (trees .entry)) order) ⌝ }
@@ -118,13 +118,13 @@ pub fn drop_taken(
 }
 
 // The write is over: the tree in hand, the only one that is taken, is cached again.
-pub fn close(r: Editor) -> Editor
+pub fn close(r: Record) -> Record
     ensures cache { λ q. ⌜ ((w : ℕ) (plens paths tlens trees order : List ℕ) (slot : ℕ) → Laid w r plens paths tlens trees → Between r order (slot ∷ []) → r .aside ≡ 0 → r .stacked ≡ 0 →
         editorOf w q plens paths tlens trees order ≡ record { cached = put at (heldAt w plens paths tlens trees slot) (cachedOf w r plens paths tlens trees); writing = none }) ⌝ }
     ensures ordered { λ q. ⌜ ((order : List ℕ) → length order ≡ 64 → Ordered q order) ⌝ }
     ensures same { λ q. ⌜ SameSlots r q × (q .«open» ≡ 0) ⌝ }
 {
-    Editor {
+    Record {
         hidden: r.free,
         open: 0,
         aside: 0,
@@ -135,7 +135,7 @@ pub fn close(r: Editor) -> Editor
 }
 
 // The slot of the tree that the write started at.
-pub fn start(r: Editor, order: &[u64]) -> usize
+pub fn start(r: Record, order: &[u64]) -> usize
     requires { ⌜ Between r (now order) (r .asked ∷ []) ⌝ }
     ensures start { λ k. ⌜ ((w : ℕ) (plens paths tlens trees : List ℕ) → heldAt w plens paths tlens trees k ≡ bottom (heldAt w plens paths tlens trees (r .asked)) (asideOf w r plens paths tlens trees (now (order .entry)))) ⌝ }
     ensures taken { λ k. ⌜ has k (allTaken r (now (order .entry)) (r .asked ∷ [])) ≡ true ⌝ }
@@ -159,7 +159,7 @@ fn goes(free: u64, gone: u64, k: usize) -> bool
 
 // Drops the tree of a slot if the slot is used and one of those in a map.
 fn drop_one(
-    r: Editor,
+    r: Record,
     plens: &mut [u64],
     paths: &mut [u8],
     tlens: &mut [u64],
@@ -167,7 +167,7 @@ fn drop_one(
     width: usize,
     gone: u64,
     k: usize,
-) -> Editor
+) -> Record
     requires { ⌜ Laid width r (now plens) (now paths) (now tlens) (now trees) × (width ≤ 64) × (k < 64) ⌝ }
     ensures free { λ q. ⌜ digits 64 (q .free) ≡ markIf (getD (digits 64 gone) k 0) (digits 64 (r .free)) k ⌝ }
     ensures others { λ q. ⌜ ((j : ℕ) → getD (digits 64 gone) j 0 ≡ 0 → SameTree (now (plens .entry)) (now (paths .entry)) (now (tlens .entry)) (now (trees .entry)) (now (plens .exit)) (now (paths .exit)) (now (tlens .exit)) (now (trees .exit)) j) ⌝ }
@@ -183,14 +183,14 @@ fn drop_one(
 
 // Drops the tree of each used slot in a map.
 fn drop_each(
-    r: Editor,
+    r: Record,
     plens: &mut [u64],
     paths: &mut [u8],
     tlens: &mut [u64],
     trees: &mut [u8],
     width: usize,
     gone: u64,
-) -> Editor
+) -> Record
     requires { ⌜ Laid width r (now plens) (now paths) (now tlens) (now trees) × (width ≤ 64) ⌝ }
     ensures free { λ q. ⌜ digits 64 (q .free) ≡ joined (digits 64 gone) (digits 64 (r .free)) ⌝ }
     ensures others { λ q. ⌜ ((k : ℕ) → getD (digits 64 gone) k 0 ≡ 0 → SameTree (now (plens .entry)) (now (paths .entry)) (now (tlens .entry)) (now (trees .entry)) (now (plens .exit)) (now (paths .exit)) (now (tlens .exit)) (now (trees .exit)) k) ⌝ }
@@ -208,14 +208,14 @@ fn drop_each(
 
 // Drops every taken tree but one, which is in hand then.
 pub fn drop_others(
-    r: Editor,
+    r: Record,
     plens: &mut [u64],
     paths: &mut [u8],
     tlens: &mut [u64],
     trees: &mut [u8],
     width: usize,
     start: usize,
-) -> Editor
+) -> Record
     requires { ⌜ Laid width r (now plens) (now paths) (now tlens) (now trees) × (width ≤ 64)
         × ((order : List ℕ) × (hand : List ℕ) × Between r order hand × (has start (allTaken r order hand) ≡ true)) ⌝ }
     ensures cache { λ q. ⌜ cachedOf width q (now (plens .exit)) (now (paths .exit)) (now (tlens .exit)) (now (trees .exit)) ≡ cachedOf width r (now (plens .entry)) (now (paths .entry)) (now (tlens .entry)) (now (trees .entry)) ⌝ }
@@ -227,7 +227,7 @@ pub fn drop_others(
     let map = r.hidden;
     let gone = store_runs::free::take(map, start);
     let ed = drop_each(r, plens, paths, tlens, trees, width, gone);
-    Editor {
+    Record {
         hidden: map,
         aside: 0,
         stacked: 0,
@@ -251,14 +251,14 @@ fn keep_run(lens: &mut [u64], bytes: &mut [u8], used: usize, k: usize) -> usize
 
 // Drops every tree but the one in a slot, which is cached then, and the write.
 pub fn keep_only(
-    r: Editor,
+    r: Record,
     plens: &mut [u64],
     paths: &mut [u8],
     tlens: &mut [u64],
     trees: &mut [u8],
     width: usize,
     slot: usize,
-) -> Editor
+) -> Record
     requires { ⌜ Laid width r (now plens) (now paths) (now tlens) (now trees) × (width ≤ 64) × Used r slot ⌝ }
     ensures editor { λ q. ⌜ ((order : List ℕ) → editorOf width q (now (plens .exit)) (now (paths .exit)) (now (tlens .exit)) (now (trees .exit)) order ≡ record { cached = heldAt width (now (plens .entry)) (now (paths .entry)) (now (tlens .entry)) (now (trees .entry)) slot ∷ []; writing = none }) ⌝ }
     ensures ordered { λ q. ⌜ ((order : List ℕ) → length order ≡ 64 → Ordered q order) ⌝ }
@@ -273,7 +273,7 @@ pub fn keep_only(
     let t = keep_run(tlens, trees, nt, slot);
     let ns = t - es * (2 + width);
     let f = store_runs::free::take(0xffff_ffff_ffff_ffff, slot);
-    Editor {
+    Record {
         free: f,
         hidden: f,
         paths: p,

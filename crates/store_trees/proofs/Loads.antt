@@ -25,7 +25,7 @@ use Rattle.names_compact.proofs.PackLaws.{takes-checked}
 use Rattle.store_runs.specs.Digits.{digits}
 use Rattle.store_runs.specs.Runs.{cut, withRun, Sound}
 use Rattle.store_slots.specs.View.{viewOf, heldAs, Laid, Used, SameWrite, pathOf, treeOf}
-use Rattle.store_slots.specs.declared.Editor.{Editor}
+use Rattle.store_slots.specs.declared.Record.{Record}
 use Rattle.store_slots.proofs.Calls.{tree-size}
 use Rattle.store_slots.proofs.Counts.{trees-is}
 use Rattle.store_slots.proofs.Relaid.{find-slot}
@@ -50,7 +50,7 @@ module _ (w : ℕ) (raw : Bytes) (es ns : ℕ) (size : sizeOf (readTree w raw) �
   as-long t e = ap (λ (z : TreeSize). z .bytes) (sized t e)
 
   -- in the place of a slot's empty tree
-  module _ (r : Editor) (plens paths tlens trees : List ℕ) (L : Laid w r plens paths tlens trees) (k : ℕ) (U : Used r k) (blank : treeOf w tlens trees k ≡ []) where
+  module _ (r : Record) (plens paths tlens trees : List ℕ) (L : Laid w r plens paths tlens trees) (k : ℕ) (U : Used r k) (blank : treeOf w tlens trees k ≡ []) where
     pub no-bytes : getD tlens k 0 ≡ 0
     no-bytes = tree-size w r plens paths tlens trees L k (U .low) ∙ ap (λ (t : Tree). length t * (2 + w) + nameBytes t) blank ∙ omega arith
 
@@ -68,7 +68,7 @@ module _ (w : ℕ) (raw : Bytes) (es ns : ℕ) (size : sizeOf (readTree w raw) �
           let m : (r .entries + es) * (2 + w) ≤ 1024 * (2 + w) = mul-le-mul-right (2 + w) (counts-fit .0) in
           omega (arith, m, add-mul (r .entries) es (2 + w), counts-fit .1, trees-is w r plens paths tlens trees L, L .trees-room)
 
-    pub filled : (q : Editor) (tlens′ trees′ : List ℕ) → ((t : Tree) → readTree w raw ≡ some t → cut tlens′ trees′ ≡ withRun k (λ (l : Bytes). packedAll t) (cut tlens trees)) →
+    pub filled : (q : Record) (tlens′ trees′ : List ℕ) → ((t : Tree) → readTree w raw ≡ some t → cut tlens′ trees′ ≡ withRun k (λ (l : Bytes). packedAll t) (cut tlens trees)) →
         length tlens′ ≡ length tlens → length trees′ ≡ length trees → Sound tlens′ trees′ (q .trees) → Kept r q → q .entries ≡ r .entries + es → q .names ≡ r .names + ns →
         (t : Tree) → readTree w raw ≡ some t → Edited w r plens paths tlens trees k t q tlens′ trees′
     filled q tlens′ trees′ c tl tb st same ee en t e =
@@ -85,7 +85,7 @@ less-fits p t c n f = fits-less (put at (heldAs p []) c) (put at (heldAs p t) c)
 }) f
 
 -- after an empty tree was cached under the path p, in the slot k
-module _ (w : ℕ) (r q : Editor) (plens paths tlens trees plens′ paths′ : List ℕ) (p : Bytes) (k : ℕ) (L : Laid w q plens′ paths′ tlens trees) (U : Used q k) (ep : pathOf plens′ paths′ k ≡ p)
+module _ (w : ℕ) (r q : Record) (plens paths tlens trees plens′ paths′ : List ℕ) (p : Bytes) (k : ℕ) (L : Laid w q plens′ paths′ tlens trees) (U : Used q k) (ep : pathOf plens′ paths′ k ≡ p)
     (v : viewOf w q plens′ paths′ tlens trees ≡ put at (heldAs p []) (viewOf w r plens paths tlens trees)) where
   abbrev c : Cache
   c = viewOf w r plens paths tlens trees
@@ -101,7 +101,7 @@ module _ (w : ℕ) (r q : Editor) (plens paths tlens trees plens′ paths′ : L
   pub still-fits : (t : Tree) → fits (put at (heldAs p t) (viewOf w r plens paths tlens trees)) ≡ true → fits (put at (heldAs (pathOf plens′ paths′ k) t) (viewOf w q plens′ paths′ tlens trees)) ≡ true
   still-fits t f = ap fits (then-put t) ∙ f
 
-  module _ (s : Editor) (tlens′ trees′ : List ℕ) (t : Tree) (E : Edited w q plens′ paths′ tlens trees k t s tlens′ trees′) where
+  module _ (s : Record) (tlens′ trees′ : List ℕ) (t : Tree) (E : Edited w q plens′ paths′ tlens trees k t s tlens′ trees′) where
     pub loaded-view : viewOf w s plens′ paths′ tlens′ trees′ ≡ put at (heldAs p t) (viewOf w r plens paths tlens trees)
     loaded-view = E .view ∙ then-put t
 

@@ -23,7 +23,7 @@ use Rattle.store_runs.specs.Runs.{total, cut, withRun, runOf, Sound}
 use Rattle.store_runs.proofs.FindLaws.{cut-at}
 use Rattle.store_runs.proofs.Laws.{total-within, splice-view, with-same}
 use Rattle.store_slots.specs.View.{Laid, Used, treeOf}
-use Rattle.store_slots.specs.declared.Editor.{Editor}
+use Rattle.store_slots.specs.declared.Record.{Record}
 use Rattle.store_slots.proofs.Calls.{run-length}
 use Rattle.store_slots.proofs.Relaid.{entries-in, names-in}
 use Rattle.store_entries.specs.Entries.{Kept, Edited}
@@ -307,7 +307,7 @@ module _ (w : ℕ) (lens bytes : List ℕ) (used k : ℕ) (ok : Sound lens bytes
 
 -- ---- in a slot
 
-module _ (w : ℕ) (r : Editor) (plens paths tlens trees : List ℕ) (L : Laid w r plens paths tlens trees) (k : ℕ) (U : Used r k) (l : Left) (F : Fewer w (getD (cut tlens trees) k []) (r .trees) l) where
+module _ (w : ℕ) (r : Record) (plens paths tlens trees : List ℕ) (L : Laid w r plens paths tlens trees) (k : ℕ) (U : Used r k) (l : Left) (F : Fewer w (getD (cut tlens trees) k []) (r .trees) l) where
   abbrev t : Tree
   t = treeOf w tlens trees k
 
@@ -342,7 +342,7 @@ module _ (w : ℕ) (r : Editor) (plens paths tlens trees : List ℕ) (L : Laid w
   pub names-left : r .trees - l .used - l .gone * (2 + w) ≤ r .names
   names-left = omega (arith, names-gone, names-in w r plens paths tlens trees L k (U .low) (U .used))
 
-  pub dropping : (q : Editor) (tlens′ trees′ : List ℕ) → cut tlens′ trees′ ≡ withRun k (λ (b : Bytes). packedAll (withoutId (null w) (unpack w b))) (cut tlens trees) →
+  pub dropping : (q : Record) (tlens′ trees′ : List ℕ) → cut tlens′ trees′ ≡ withRun k (λ (b : Bytes). packedAll (withoutId (null w) (unpack w b))) (cut tlens trees) →
       length tlens′ ≡ length tlens → length trees′ ≡ length trees → Sound tlens′ trees′ (q .trees) → Kept r q → q .entries ≡ r .entries - l .gone → q .names ≡ r .names - (r .trees - l .used - l .gone * (2 + w)) →
       Edited w r plens paths tlens trees k (withoutId (null w) (treeOf w tlens trees k)) q tlens′ trees′
   dropping q tlens′ trees′ c tl tb st same ee en =

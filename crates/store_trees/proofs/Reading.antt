@@ -9,12 +9,12 @@ use Rattle.store_runs.specs.Runs.{runOf}
 use Rattle.store_runs.proofs.FindLaws.{cut-at}
 use Rattle.store_runs.proofs.Laws.{total-within}
 use Rattle.store_slots.specs.View.{Laid, treeOf}
-use Rattle.store_slots.specs.declared.Editor.{Editor}
+use Rattle.store_slots.specs.declared.Record.{Record}
 use Rattle.store_slots.proofs.Calls.{run-length}
 use Rattle.store_slots.proofs.Relaid.{run-in}
 use Rattle.store_trees.specs.Trees.{Readable}
 
-module _ {w : ℕ} {r : Editor} {tlens trees : List ℕ} {k : ℕ} (p : Readable w r tlens trees k) where
+module _ {w : ℕ} {r : Record} {tlens trees : List ℕ} {k : ℕ} (p : Readable w r tlens trees k) where
   pub run-there : Run w (runOf tlens trees k)
   run-there = subst (Run w) (cut-at tlens trees k (p .low)) (p .run)
 
@@ -26,7 +26,7 @@ module _ {w : ℕ} {r : Editor} {tlens trees : List ℕ} {k : ℕ} (p : Readable
       omega (arith, ap length (cut-at tlens trees k (p .low)), run-length tlens trees (r .trees) k (p .sound) (p .low), total-within tlens k (p .low), p .sound .sum, p .sound .fits, p .small)
 
 -- every slot of a store can be read
-pub readable : (w : ℕ) (r : Editor) (plens paths tlens trees : List ℕ) → Laid w r plens paths tlens trees → w ≤ 64 → (k : ℕ) → k < 64 → Readable w r tlens trees k
+pub readable : (w : ℕ) (r : Record) (plens paths tlens trees : List ℕ) → Laid w r plens paths tlens trees → w ≤ 64 → (k : ℕ) → k < 64 → Readable w r tlens trees k
 readable w r plens paths tlens trees L h k low =
     record {
       sound = L .trees-sound;

@@ -7,11 +7,11 @@ use Rattle.model.specs.Bytes.{Bytes}
 use Rattle.model.specs.Tree.{null, withoutId}
 use Rattle.names_compact.specs.Compact.{packedAll, unpack, Run}
 use Rattle.store_runs.specs.Runs.{cut, Sound}
-use Rattle.store_slots.specs.declared.Editor.{Editor}
+use Rattle.store_slots.specs.declared.Record.{Record}
 use Rattle.store_trees.specs.declared.nulls.Left.{Left}
 
 -- the run of the slot k is a tree in compact form
-pub record Readable (w : ℕ) (r : Editor) (tlens trees : List ℕ) (k : ℕ) : Type 0 where
+pub record Readable (w : ℕ) (r : Record) (tlens trees : List ℕ) (k : ℕ) : Type 0 where
   pub sound : Sound tlens trees (r .trees)
   pub low : k < length tlens
   pub run : Run w (getD (cut tlens trees) k [])

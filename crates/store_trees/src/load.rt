@@ -13,12 +13,12 @@ ghost use Rattle.names.specs.Check.{sizeOf};
 ghost use Rattle.store_runs.specs.Digits.{digits};
 ghost use Rattle.store_slots.specs.View.{viewOf, heldAs, Laid, pathOf, treeOf, Used, Others, SameWrite};
 ghost use Rattle.store_entries.specs.Entries.{Edited};
-use store_slots::Editor;
+use store_slots::Record;
 use store_slots::Taken;
 
 // Puts the tree that is read from its raw form, with so many entries and name bytes, in the place of a slot's empty tree.
 fn fill_slot(
-    r: Editor,
+    r: Record,
     plens: &[u64],
     paths: &[u8],
     tlens: &mut [u64],
@@ -28,7 +28,7 @@ fn fill_slot(
     raw: &[u8],
     entries: usize,
     name_bytes: usize,
-) -> Editor
+) -> Record
     requires { ⌜ Laid width r (now plens) (now paths) (now tlens) (now trees) × (width ≤ 64) × Used r slot × (treeOf width (now tlens) (now trees) slot ≡ [])
         × (sizeOf (readTree width (now raw)) ≡ some (record { entries = entries; bytes = «name_bytes» }))
         × ((t : Tree) → readTree width (now raw) ≡ some t → fits (put at (heldAs (pathOf (now plens) (now paths) slot) t) (viewOf width r (now plens) (now paths) (now tlens) (now trees))) ≡ true) ⌝ }
@@ -41,7 +41,7 @@ fn fill_slot(
     let t = nt + n;
     let more = r.entries + entries;
     let bytes = r.names + name_bytes;
-    Editor {
+    Record {
         trees: t,
         entries: more,
         names: bytes,
@@ -51,7 +51,7 @@ fn fill_slot(
 
 // Caches a well-formed raw tree, with so many entries and name bytes, under a path that has none, in the first free slot.
 pub fn load(
-    r: Editor,
+    r: Record,
     plens: &mut [u64],
     paths: &mut [u8],
     tlens: &mut [u64],

@@ -10,7 +10,7 @@ ghost use Rattle.store_runs.specs.Runs.{cut, withRun, Sound};
 ghost use Rattle.store_slots.specs.View.{Laid, treeOf, Used};
 ghost use Rattle.store_entries.specs.Entries.{Edited};
 ghost use Rattle.store_trees.specs.Trees.{Fewer};
-use store_slots::Editor;
+use store_slots::Record;
 
 // The bytes then in use, and how many entries are gone.
 pub struct Left {
@@ -74,14 +74,14 @@ fn close_run(lens: &mut [u64], bytes: &mut [u8], used: usize, k: usize, width: u
 
 // Takes the entries whose ids are null out of a slot's tree.
 pub fn drop_null(
-    r: Editor,
+    r: Record,
     plens: &[u64],
     paths: &[u8],
     tlens: &mut [u64],
     trees: &mut [u8],
     width: usize,
     slot: usize,
-) -> Editor
+) -> Record
     requires { ⌜ Laid width r (now plens) (now paths) (now tlens) (now trees) × (width ≤ 64) × Used r slot ⌝ }
     ensures { λ q. ⌜ Edited width r (now (plens .entry)) (now (paths .entry)) (now (tlens .entry)) (now (trees .entry)) slot (withoutId (null width) (treeOf width (now (tlens .entry)) (now (trees .entry)) slot)) q (now (tlens .exit)) (now (trees .exit)) ⌝ }
 {
@@ -92,7 +92,7 @@ pub fn drop_null(
     let bytes = nt - t - gone * (2 + width);
     let fewer = r.entries - gone;
     let names = r.names - bytes;
-    Editor {
+    Record {
         trees: t,
         entries: fewer,
         names: names,

@@ -6,10 +6,10 @@ ghost use Rattle.model.specs.Raw.{rawTree};
 ghost use Rattle.names.specs.Splice.{splice};
 ghost use Rattle.store_slots.specs.View.{treeOf};
 ghost use Rattle.store_trees.specs.Trees.{Readable};
-use store_slots::Editor;
+use store_slots::Record;
 
 // How long the raw form of a slot's tree is.
-pub fn raw_len_of(r: Editor, tlens: &[u64], trees: &[u8], width: usize, slot: usize) -> usize
+pub fn raw_len_of(r: Record, tlens: &[u64], trees: &[u8], width: usize, slot: usize) -> usize
     requires { ⌜ Readable width r (now tlens) (now trees) slot ⌝ }
     ensures { λ n. ⌜ n ≡ length (rawTree (treeOf width (now (tlens .entry)) (now (trees .entry)) slot)) ⌝ }
 {
@@ -19,7 +19,7 @@ pub fn raw_len_of(r: Editor, tlens: &[u64], trees: &[u8], width: usize, slot: us
 
 // Writes the raw form of a slot's tree to the front of out, and says how long it is.
 pub fn put_raw(
-    r: Editor,
+    r: Record,
     tlens: &[u64],
     trees: &[u8],
     width: usize,

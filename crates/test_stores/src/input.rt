@@ -4,7 +4,7 @@ ghost use mathlib.Core.Path.{_≡_};
 ghost use lib.ListN.{length};
 use libc::STDIN_FILENO;
 use libc::STDOUT_FILENO;
-use store_slots::Editor;
+use store_slots::Record;
 
 // Reads so many bytes to the front of a slice. False where the input has fewer, or the slice no room for them.
 fn read_bytes(out: &mut [u8], n: usize) -> bool {
@@ -33,10 +33,10 @@ fn length_at(head: &[u8], at: usize) -> usize
 }
 
 // The record whose ten fields stand behind the five lengths.
-fn record_of(head: &[u8]) -> Editor
+fn record_of(head: &[u8]) -> Record
     requires { ⌜ length (now head) ≡ 100 ⌝ }
 {
-    Editor {
+    Record {
         free: crate::words::word_at(head, 20),
         hidden: crate::words::word_at(head, 28),
         paths: crate::words::word_at(head, 36) as usize,

@@ -58,10 +58,10 @@ unfolding refuseIf
 still-idle true n c a h = refl
 still-idle false n c a h = h
 
-idle-after : (T : Table) (e : Edit) (deep : Bool) (prefix path : Bytes) (c : Cache) → (edited sha1 T e deep prefix path (idle c)) .editor .writing ≡ none
+idle-after : (T : Table) (e : Edit) (opening : Bool) (prefix path : Bytes) (c : Cache) → (edited sha1 T e opening prefix path (idle c)) .editor .writing ≡ none
 unfolding edited settled refuseIf
-idle-after T e deep prefix path c =
-    let w = walk sha1 T e deep (components path) prefix c in
+idle-after T e opening prefix path c =
+    let w = walk sha1 T e opening (components path) prefix c in
     let a : Answer = record { code = w .code; editor = idle (w .now) } in
     let a₅ : Answer = refuseIf (not (w .kept)) 5 (idle c) a in
     let a₆ : Answer = refuseIf (refused prefix path) 6 (idle c) a₅ in

@@ -82,33 +82,33 @@ unfolding refuseIf
 refuse-not true n E a h k = h
 refuse-not false n E a h k = k
 
-module _ (T : Table) (e : Edit) (deep : Bool) (prefix path : Bytes) where
-  walk-low : (c : Cache) → valid sha1 (idle c) ≡ true → isSome (find at prefix c) ≡ true → (walk sha1 T e deep (components path) prefix c) .code ≤ 4
+module _ (T : Table) (e : Edit) (opening : Bool) (prefix path : Bytes) where
+  walk-low : (c : Cache) → valid sha1 (idle c) ≡ true → isSome (find at prefix c) ≡ true → (walk sha1 T e opening (components path) prefix c) .code ≤ 4
   walk-low c v h =
-      let l = measured-low sha1 T e deep (components path) prefix (treeAt prefix c) c (countsOf c) in
-      omega (arith, l, measure-code sha1 T e deep prefix path c v h)
+      let l = measured-low sha1 T e opening (components path) prefix (treeAt prefix c) c (countsOf c) in
+      omega (arith, l, measure-code sha1 T e opening prefix path c v h)
 
   settled-not : (E : Model) (w : Walked) → w .code ≤ 4 → Not11 (settled E w)
   unfolding settled
   settled-not E w h = refuse-not (not (w .kept)) 5 E (record { code = w .code; editor = record { cached = w .now; writing = none } }) (λ z. omega (arith, z)) (λ z. omega (arith, z, h))
 
-  edited-of : (c : Cache) (o : Option Write) → valid sha1 (record { cached = c; writing = o }) ≡ true → Not11 (edited sha1 T e deep prefix path (record { cached = c; writing = o }))
+  edited-of : (c : Cache) (o : Option Write) → valid sha1 (record { cached = c; writing = o }) ≡ true → Not11 (edited sha1 T e opening prefix path (record { cached = c; writing = o }))
   unfolding edited refuseIf
   edited-of c (some w) v = λ z. omega (arith, z)
   edited-of c none v =
       refuse-not (not (goodTable (sha1 .width) T)) 7 (idle c) (then (isSome (find at prefix c))) (λ z. omega (arith, z)) (on (isSome (find at prefix c)) refl)
     where
       last : Answer
-      last = refuseIf (refused prefix path) 6 (idle c) (settled (idle c) (walk sha1 T e deep (components path) prefix c))
+      last = refuseIf (refused prefix path) 6 (idle c) (settled (idle c) (walk sha1 T e opening (components path) prefix c))
 
       then : Bool → Answer
       then b = refuseIf (not b) 8 (idle c) last
 
       on : (b : Bool) → isSome (find at prefix c) ≡ b → Not11 (then b)
-      on true h = refuse-not (refused prefix path) 6 (idle c) (settled (idle c) (walk sha1 T e deep (components path) prefix c)) (λ z. omega (arith, z)) (settled-not (idle c) (walk sha1 T e deep (components path) prefix c) (walk-low c v h))
+      on true h = refuse-not (refused prefix path) 6 (idle c) (settled (idle c) (walk sha1 T e opening (components path) prefix c)) (λ z. omega (arith, z)) (settled-not (idle c) (walk sha1 T e opening (components path) prefix c) (walk-low c v h))
       on false h = λ z. omega (arith, z)
 
-  edited-not : (E : Model) → valid sha1 E ≡ true → Not11 (edited sha1 T e deep prefix path E)
+  edited-not : (E : Model) → valid sha1 E ≡ true → Not11 (edited sha1 T e opening prefix path E)
   edited-not E v = edited-of (E .cached) (E .writing) v
 
 rooted-not : (E : Model) (o : Option Tree) → Not11 (rooted E o)

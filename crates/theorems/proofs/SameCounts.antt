@@ -17,14 +17,14 @@ use Rattle.model.specs.Valid.{everyTree}
 use Rattle.model.proofs.RoomCounts.{entries-total, names-total, paths-total}
 use Rattle.model.proofs.SoundTrees.{total}
 use Rattle.store_slots.specs.View.{treeRoom, slots, viewOf, heldAt, asideOf, stackedOf, writeOf, Laid, Ordered}
-use Rattle.store_slots.specs.declared.Editor.{Editor}
+use Rattle.store_slots.specs.declared.Record.{Record}
 use Rattle.store_slots.proofs.Counts.{paths-is, trees-is}
 use Rattle.store_slots.proofs.Gather.{total-gather}
 use Rattle.store_check.proofs.Whole.{every-total}
 use Rattle.editor.specs.Lent.{Lent, Good, viewed}
 
 -- the numbers of a record that are no slot numbers
-pub record Numbers (r r′ : Editor) : Type 0 where
+pub record Numbers (r r′ : Record) : Type 0 where
   pub paths : r .paths ≡ r′ .paths
   pub trees : r .trees ≡ r′ .trees
   pub entries : r .entries ≡ r′ .entries
@@ -76,7 +76,7 @@ back-length f k o e l = length-map (drop (64 - k) o) f ∙ length-drop (64 - k) 
 -- ---- of a store that holds an editor
 
 module _ (s : Lent) (g : Good s) where
-  abbrev r : Editor
+  abbrev r : Record
   r = s .ed
 
   abbrev plens : List ℕ

@@ -2,7 +2,7 @@
 use mathlib.Core.Path.{_≡_, refl, sym}
 use Prim.Native.Nat.{ℕ, zero, suc, _≤_}
 use native.Mathlib.Omega.{arith}
-use Rattle.store_slots.specs.declared.Editor.{Editor}
+use Rattle.store_slots.specs.declared.Record.{Record}
 use Rattle.store_taken.specs.Taken.{allTaken}
 use Rattle.store_taken.proofs.Dropping.{left-used, left-hidden, left-out, left-self, left-between}
 use Rattle.store_taken.proofs.Ends.{cached-same}
@@ -52,7 +52,7 @@ returns c =
     let t = s .pre .2 in
     let b = t .2 in
     let ks = allTaken (a .r) (t .0) (t .1) in
-    let q : Editor = record { free = d .result .free; hidden = a .r .hidden; paths = d .result .paths; trees = d .result .trees; entries = d .result .entries; names = d .result .names; «open» = d .result .«open»; aside = 0; stacked = 0; asked = d .result .asked } in (
+    let q : Record = record { free = d .result .free; hidden = a .r .hidden; paths = d .result .paths; trees = d .result .trees; entries = d .result .entries; names = d .result .names; «open» = d .result .«open»; aside = 0; stacked = 0; asked = d .result .asked } in (
       cached-same (a .width) (a .plens .now) (a .paths .now) (a .tlens .now) (a .trees .now) (p .0) (p .1 .0) (p .1 .1 .0) (p .1 .1 .1 .0) (a .r) q
           (record { p = L .plens-64; t = L .tlens-64; p′ = L′ .plens-64; t′ = L′ .tlens-64 }) refl (λ j h z. e .1 .0 j (left-out (a .r) ks (b .marks) (a .start) (t .3) (g .result) (g .ensures) j z)),
       (

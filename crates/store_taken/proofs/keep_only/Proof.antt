@@ -10,7 +10,7 @@ use Rattle.model.specs.Editor.{Cache}
 use Rattle.model.specs.Editor.{Editor as Model}
 use Rattle.names_compact.specs.Compact.{Run, unpack}
 use Rattle.store_slots.specs.View.{treeOf}
-use Rattle.store_slots.specs.declared.Editor.{Editor}
+use Rattle.store_slots.specs.declared.Record.{Record}
 use Rattle.store_slots.proofs.Calls.{searched-run, tree-run, tree-size, run-fits}
 use Rattle.store_taken.proofs.Ends.{closed-ordered}
 use Rattle.store_taken.proofs.Keeping.{ones-at, sole-same, sole-digit, sole-view, sole-laid}
@@ -90,7 +90,7 @@ returns c =
     let pl = p .kept .0 ∙ L .plens-64 in
     let tl = t .kept .0 ∙ L .tlens-64 in
     let es = n .count .result in
-    let q : Editor = record { free = f; hidden = f; paths = p .result; trees = t .result; entries = es; names = t .result - es * (2 + a .width); «open» = 0; aside = 0; stacked = 0; asked = 0 } in
+    let q : Record = record { free = f; hidden = f; paths = p .result; trees = t .result; entries = es; names = t .result - es * (2 + a .width); «open» = 0; aside = 0; stacked = 0; asked = 0 } in
     let same = sole-same (a .width) (a .r) (a .plens .now) (a .paths .now) (a .tlens .now) (a .trees .now) L (a .slot) (s .pre .2 .low) q (p .last .0) (p .last .1 .0) (t .last .0) (t .last .1 .0) (p .ensures .0) (t .ensures .0) pl tl (c .take .ensures) in
     let digit = sole-digit (a .width) (a .r) (a .plens .now) (a .paths .now) (a .tlens .now) (a .trees .now) L (a .slot) (s .pre .2 .low) q (p .last .0) (p .last .1 .0) (t .last .0) (t .last .1 .0) (p .ensures .0) (t .ensures .0) pl tl (c .take .ensures) in
     let view = sole-view (a .width) (a .r) (a .plens .now) (a .paths .now) (a .tlens .now) (a .trees .now) L (a .slot) (s .pre .2 .low) q (p .last .0) (p .last .1 .0) (t .last .0) (t .last .1 .0) (p .ensures .0) (t .ensures .0) pl tl (c .take .ensures) in

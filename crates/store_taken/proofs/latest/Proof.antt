@@ -2,7 +2,7 @@
 use mathlib.Core.Path.{refl}
 use Prim.Native.Nat.{_-_}
 use borrow.Author.Needs.{needs}
-use Rattle.store_slots.specs.declared.Editor.{Editor}
+use Rattle.store_slots.specs.declared.Record.{Record}
 use Rattle.store_taken.proofs.Steps.{latest-between, latest-going}
 use Rattle.store_taken.proofs.latest.Statement.{statement}
 use Rattle.store_taken.proofs.latest.Tie as tie
@@ -20,7 +20,7 @@ returns : tie.Need-returns
 returns c =
     let s = c .before .before in
     let a = s .args in
-    let q : Editor = record { free = a .r .free; hidden = a .r .hidden; paths = a .r .paths; trees = a .r .trees; entries = a .r .entries; names = a .r .names; «open» = a .r .«open»; aside = a .r .aside - 1; stacked = a .r .stacked; asked = a .r .asked } in (
+    let q : Record = record { free = a .r .free; hidden = a .r .hidden; paths = a .r .paths; trees = a .r .trees; entries = a .r .entries; names = a .r .names; «open» = a .r .«open»; aside = a .r .aside - 1; stacked = a .r .stacked; asked = a .r .asked } in (
       latest-going (a .r) (a .order .now) (s .pre .0) q (record { free = refl; hidden = refl; «open» = refl; aside = refl; stacked = refl }) (s .pre .1),
       (
         latest-between (a .r) (a .order .now) (s .pre .0) q (record { free = refl; hidden = refl; «open» = refl; aside = refl; stacked = refl }) (s .pre .1),

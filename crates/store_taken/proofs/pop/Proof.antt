@@ -2,7 +2,7 @@
 use mathlib.Core.Path.{refl}
 use Prim.Native.Nat.{_-_}
 use borrow.Author.Needs.{needs}
-use Rattle.store_slots.specs.declared.Editor.{Editor}
+use Rattle.store_slots.specs.declared.Record.{Record}
 use Rattle.store_taken.proofs.Steps.{pop-between, pop-going}
 use Rattle.store_taken.proofs.pop.Statement.{statement}
 use Rattle.store_taken.proofs.pop.Tie as tie
@@ -23,7 +23,7 @@ returns : tie.Need-returns
 returns c =
     let s = c .before in
     let a = s .args in
-    let q : Editor = record { free = a .r .free; hidden = a .r .hidden; paths = a .r .paths; trees = a .r .trees; entries = a .r .entries; names = a .r .names; «open» = a .r .«open»; aside = a .r .aside; stacked = a .r .stacked - 1; asked = a .r .asked } in (
+    let q : Record = record { free = a .r .free; hidden = a .r .hidden; paths = a .r .paths; trees = a .r .trees; entries = a .r .entries; names = a .r .names; «open» = a .r .«open»; aside = a .r .aside; stacked = a .r .stacked - 1; asked = a .r .asked } in (
       pop-going (a .r) (a .order .now) (s .pre .0) q (record { free = refl; hidden = refl; «open» = refl; aside = refl; stacked = refl }) (s .pre .1),
       (
         pop-between (a .r) (a .order .now) (s .pre .0) q (record { free = refl; hidden = refl; «open» = refl; aside = refl; stacked = refl }) (s .pre .1),

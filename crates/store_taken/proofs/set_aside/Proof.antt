@@ -2,7 +2,7 @@
 use mathlib.Core.Path.{refl}
 use Prim.Native.Nat.{_+_}
 use borrow.Author.Needs.{needs}
-use Rattle.store_slots.specs.declared.Editor.{Editor}
+use Rattle.store_slots.specs.declared.Record.{Record}
 use Rattle.store_taken.proofs.Steps.{aside-between, aside-going}
 use Rattle.store_taken.proofs.set_aside.Statement.{statement}
 use Rattle.store_taken.proofs.set_aside.Tie as tie
@@ -22,7 +22,7 @@ same-length c = search needs
 returns : tie.Need-returns
 returns c =
     let a = c .args in
-    let q : Editor = record { free = a .r .free; hidden = a .r .hidden; paths = a .r .paths; trees = a .r .trees; entries = a .r .entries; names = a .r .names; «open» = a .r .«open»; aside = a .r .aside + 1; stacked = a .r .stacked; asked = a .r .asked } in (
+    let q : Record = record { free = a .r .free; hidden = a .r .hidden; paths = a .r .paths; trees = a .r .trees; entries = a .r .entries; names = a .r .names; «open» = a .r .«open»; aside = a .r .aside + 1; stacked = a .r .stacked; asked = a .r .asked } in (
       aside-going (a .r) (a .order .now) (a .slot) (c .pre) q (record { free = refl; hidden = refl; «open» = refl; aside = refl; stacked = refl }),
       (
         aside-between (a .r) (a .order .now) (a .slot) (c .pre) q (record { free = refl; hidden = refl; «open» = refl; aside = refl; stacked = refl }),

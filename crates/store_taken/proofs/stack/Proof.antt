@@ -3,7 +3,7 @@ use mathlib.Core.Path.{refl}
 use Prim.Native.Nat.{_+_}
 use native.Mathlib.Omega.{arith}
 use borrow.Author.Needs.{needs}
-use Rattle.store_slots.specs.declared.Editor.{Editor}
+use Rattle.store_slots.specs.declared.Record.{Record}
 use Rattle.store_taken.proofs.Steps.{room-more, stack-between, stack-going}
 use Rattle.store_taken.proofs.stack.Statement.{statement}
 use Rattle.store_taken.proofs.stack.Tie as tie
@@ -34,7 +34,7 @@ returns c =
     let s = c .before .before .before in
     let a = s .args in
     let g = c .give in
-    let q : Editor = record { free = a .r .free; hidden = g .result; paths = a .r .paths; trees = a .r .trees; entries = a .r .entries; names = a .r .names; «open» = a .r .«open»; aside = a .r .aside; stacked = a .r .stacked + 1; asked = a .r .asked } in (
+    let q : Record = record { free = a .r .free; hidden = g .result; paths = a .r .paths; trees = a .r .trees; entries = a .r .entries; names = a .r .names; «open» = a .r .«open»; aside = a .r .aside; stacked = a .r .stacked + 1; asked = a .r .asked } in (
       λ w plens paths tlens trees L. stack-going (a .r) (a .order .now) (s .pre .0 .0) (s .pre .0 .1) (a .slot) (s .pre .1) q refl (g .ensures .1) refl refl refl w plens paths tlens trees L,
       (
         λ hand b. stack-between (a .r) (a .order .now) hand b (a .slot) (s .pre .1) q refl (g .ensures .1) refl refl refl,

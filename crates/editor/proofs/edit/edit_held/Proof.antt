@@ -18,7 +18,7 @@ use Rattle.editor.proofs.edit.edit_held.Tie as tie
 returns : tie.Need-returns
 returns c order =
     let a = c .before .before .before .before .before .before .before .before .before .before .before .args in
-    is-open (tableOf (a .ids .now) (a .ends .now) (a .raws .now)) (asEdit (a .edit)) (a .deep) (a .prefix .now) (a .path .now) (a .ed) (a .plens .now) (a .paths .now) (a .tlens .now) (a .trees .now) order WriteOpen refl (c .if1 .taken)
+    is-open (tableOf (a .ids .now) (a .ends .now) (a .raws .now)) (asEdit (a .edit)) (a .opening) (a .prefix .now) (a .path .now) (a .ed) (a .plens .now) (a .paths .now) (a .tlens .now) (a .trees .now) order WriteOpen refl (c .if1 .taken)
 
 is-good-requires : tie.Need-is-good-requires
 is-good-requires c κs = search needs
@@ -28,7 +28,7 @@ returns-2 c order =
     let i = c .before in
     let e1 = i .before in
     let a = e1 .before .before .before .before .before .before .before .before .before .before .before .args in
-    bad-table (tableOf (a .ids .now) (a .ends .now) (a .raws .now)) (asEdit (a .edit)) (a .deep) (a .prefix .now) (a .path .now) (a .ed) (a .plens .now) (a .paths .now) (a .tlens .now) (a .trees .now) order BadTable refl (e1 .if1 .left) (sym (i .is-good .ensures) ∙ not-true _ (c .if2 .taken))
+    bad-table (tableOf (a .ids .now) (a .ends .now) (a .raws .now)) (asEdit (a .edit)) (a .opening) (a .prefix .now) (a .path .now) (a .ed) (a .plens .now) (a .paths .now) (a .tlens .now) (a .trees .now) order BadTable refl (e1 .if1 .left) (sym (i .is-good .ensures) ∙ not-true _ (c .if2 .taken))
 
 slot-for-requires : tie.Need-slot-for-requires
 slot-for-requires c κs = search needs
@@ -91,7 +91,7 @@ returns-3 c order =
     let e1 = i .before in
     let s = e1 .before .before .before .before .before .before .before .before .before .before .before in
     let a = s .args in
-    is-stale (tableOf (a .ids .now) (a .ends .now) (a .raws .now)) (asEdit (a .edit)) (a .deep) (a .prefix .now) (a .path .now) (a .ed) (a .plens .now) (a .paths .now) (a .tlens .now) (a .trees .now) order (f .slot-for .result) (s .pre .0) (e1 .if1 .left) (s .pre .1 (e1 .if1 .left)) (sym (i .is-good .ensures) ∙ not-false _ (e2 .if2 .left)) (f .slot-for .ensures) CursorStale refl (c .enum-told .given .1)
+    is-stale (tableOf (a .ids .now) (a .ends .now) (a .raws .now)) (asEdit (a .edit)) (a .opening) (a .prefix .now) (a .path .now) (a .ed) (a .plens .now) (a .paths .now) (a .tlens .now) (a .trees .now) order (f .slot-for .result) (s .pre .0) (e1 .if1 .left) (s .pre .1 (e1 .if1 .left)) (sym (i .is-good .ensures) ∙ not-false _ (e2 .if2 .left)) (f .slot-for .ensures) CursorStale refl (c .enum-told .given .1)
 
 same-length-3 : tie.Need-same-length-3
 same-length-3 c = search needs
@@ -107,7 +107,7 @@ returns-4 c order =
     let e1 = i .before in
     let s = e1 .before .before .before .before .before .before .before .before .before .before .before in
     let a = s .args in
-    is-refused (tableOf (a .ids .now) (a .ends .now) (a .raws .now)) (asEdit (a .edit)) (a .deep) (a .prefix .now) (a .path .now) (a .ed) (a .plens .now) (a .paths .now) (a .tlens .now) (a .trees .now) order (f .slot-for .result) (s .pre .0) (e1 .if1 .left) (s .pre .1 (e1 .if1 .left)) (sym (i .is-good .ensures) ∙ not-false _ (e2 .if2 .left)) (f .slot-for .ensures) PathRefused refl (c .enum-told2 .given .1)
+    is-refused (tableOf (a .ids .now) (a .ends .now) (a .raws .now)) (asEdit (a .edit)) (a .opening) (a .prefix .now) (a .path .now) (a .ed) (a .plens .now) (a .paths .now) (a .tlens .now) (a .trees .now) order (f .slot-for .result) (s .pre .0) (e1 .if1 .left) (s .pre .1 (e1 .if1 .left)) (sym (i .is-good .ensures) ∙ not-false _ (e2 .if2 .left)) (f .slot-for .ensures) PathRefused refl (c .enum-told2 .given .1)
 
 same-length-5 : tie.Need-same-length-5
 same-length-5 c = search needs
@@ -131,7 +131,7 @@ returns-5 c order =
     let e1 = i .before in
     let s = e1 .before .before .before .before .before .before .before .before .before .before .before in
     let a = s .args in
-    is-settled (tableOf (a .ids .now) (a .ends .now) (a .raws .now)) (asEdit (a .edit)) (a .deep) (a .prefix .now) (a .path .now) (a .ed) (a .plens .now) (a .paths .now) (a .tlens .now) (a .trees .now) order (f .slot-for .result) (s .pre .0) (e1 .if1 .left) (s .pre .1 (e1 .if1 .left)) (sym (i .is-good .ensures) ∙ not-false _ (e2 .if2 .left)) (f .slot-for .ensures) (k .slot .given .0 .0) (k .slot .given .1) (s .pre .2 (e1 .if1 .left)) (z .settle .result) _ _ _ _ (z .settle .ensures)
+    is-settled (tableOf (a .ids .now) (a .ends .now) (a .raws .now)) (asEdit (a .edit)) (a .opening) (a .prefix .now) (a .path .now) (a .ed) (a .plens .now) (a .paths .now) (a .tlens .now) (a .trees .now) order (f .slot-for .result) (s .pre .0) (e1 .if1 .left) (s .pre .1 (e1 .if1 .left)) (sym (i .is-good .ensures) ∙ not-false _ (e2 .if2 .left)) (f .slot-for .ensures) (k .slot .given .0 .0) (k .slot .given .1) (s .pre .2 (e1 .if1 .left)) (z .settle .result) _ _ _ _ (z .settle .ensures)
 
 pub edit-held-spec : {M : Type 1} → statement M
 edit-held-spec =

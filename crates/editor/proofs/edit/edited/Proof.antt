@@ -30,7 +30,7 @@ returns : tie.Need-returns
 returns c =
     let h = c .before in
     let a = h .before .before .before .before .before .before .before .before .before .before .before .before .before .before .before .args in
-    damaged (tableOf (a .ids .now) (a .ends .now) (a .raws .now)) (a .edit) (a .deep) (a .prefix .now) (a .path .now) (a .ed) (a .plens .now) (a .paths .now) (a .tlens .now) (a .trees .now) (a .order .now) StoreDamaged refl (h .holds .result) (h .holds .ensures) (not-true _ (c .if1 .taken))
+    damaged (tableOf (a .ids .now) (a .ends .now) (a .raws .now)) (a .edit) (a .opening) (a .prefix .now) (a .path .now) (a .ed) (a .plens .now) (a .paths .now) (a .tlens .now) (a .trees .now) (a .order .now) StoreDamaged refl (h .holds .result) (h .holds .ensures) (not-true _ (c .if1 .taken))
 
 slice-relend-prefix-edit-held : tie.Need-slice-relend-prefix-edit-held
 slice-relend-prefix-edit-held c =
@@ -123,7 +123,7 @@ returns-2 c =
     let h = e .before in
     let a = h .before .before .before .before .before .before .before .before .before .before .before .before .before .before .before .args in
     let g = h .holds .ensures .yes (not-false _ (e .if1 .left)) in
-    done (tableOf (a .ids .now) (a .ends .now) (a .raws .now)) (a .edit) (a .deep) (a .prefix .now) (a .path .now) (a .ed) (a .plens .now) (a .paths .now) (a .tlens .now) (a .trees .now) (a .order .now) g (z .edit-held .result) _ _ _ _ (z .edit-held .ensures (take 64 (a .order .now)))
+    done (tableOf (a .ids .now) (a .ends .now) (a .raws .now)) (a .edit) (a .opening) (a .prefix .now) (a .path .now) (a .ed) (a .plens .now) (a .paths .now) (a .tlens .now) (a .trees .now) (a .order .now) g (z .edit-held .result) _ _ _ _ (z .edit-held .ensures (take 64 (a .order .now)))
 
 pub edited-spec : {M : Type 1} → statement M
 edited-spec =

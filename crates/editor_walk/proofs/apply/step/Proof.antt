@@ -18,7 +18,7 @@ returns : tie.Need-returns
 returns c =
     let s = c .before .before .before .before .before .before .before .before .before .before in
     let a = s .args in
-    step-empty (tableOf (a .ids .now) (a .ends .now) (a .raws .now)) (asEdit (a .edit)) (a .deep) (a .last) (pathOf (a .plens .now) (a .paths .now) (a .slot)) (a .below .now) (a .name .now) (a .ed) (a .plens .now) (a .paths .now) (a .tlens .now) (a .trees .now) (s .pre .0) (s .pre .1) (c .if1 .taken)
+    step-empty (tableOf (a .ids .now) (a .ends .now) (a .raws .now)) (asEdit (a .edit)) (a .opening) (a .last) (pathOf (a .plens .now) (a .paths .now) (a .slot)) (a .below .now) (a .name .now) (a .ed) (a .plens .now) (a .paths .now) (a .tlens .now) (a .trees .now) (s .pre .0) (s .pre .1) (c .if1 .taken)
 
 run-requires : tie.Need-run-requires
 run-requires c κs = search needs
@@ -43,7 +43,7 @@ apply-requires c κs =
     let e1 = ru .before .before .before in
     let s = e1 .before .before .before .before .before .before .before .before .before .before in
     let a = s .args in
-    (s .pre .0, s .pre .2, s .pre .4 (e1 .if1 .left), turn-fits (tableOf (a .ids .now) (a .ends .now) (a .raws .now)) (a .edit) (a .deep) (a .last) (a .below .now) (a .name .now) (a .ed) (a .plens .now) (a .paths .now) (a .tlens .now) (a .trees .now) (s .pre .0) (s .pre .1) (a .slot) (s .pre .2) (sf .seen-for .result) (tf .turn-of .result) (tf .turn-of .ensures) (λ h. sf .seen-for .ensures h ∙ ap (λ (z : Tree). partsOf (entryOf (a .name .now) z)) (ap (unpack 20) (ru .run .ensures) ∙ tree-run 20 (a .ed) (a .plens .now) (a .paths .now) (a .tlens .now) (a .trees .now) (s .pre .0) (a .slot) (s .pre .2 .low))) (e1 .if1 .left) (s .pre .5))
+    (s .pre .0, s .pre .2, s .pre .4 (e1 .if1 .left), turn-fits (tableOf (a .ids .now) (a .ends .now) (a .raws .now)) (a .edit) (a .opening) (a .last) (a .below .now) (a .name .now) (a .ed) (a .plens .now) (a .paths .now) (a .tlens .now) (a .trees .now) (s .pre .0) (s .pre .1) (a .slot) (s .pre .2) (sf .seen-for .result) (tf .turn-of .result) (tf .turn-of .ensures) (λ h. sf .seen-for .ensures h ∙ ap (λ (z : Tree). partsOf (entryOf (a .name .now) z)) (ap (unpack 20) (ru .run .ensures) ∙ tree-run 20 (a .ed) (a .plens .now) (a .paths .now) (a .tlens .now) (a .trees .now) (s .pre .0) (a .slot) (s .pre .2 .low))) (e1 .if1 .left) (s .pre .5))
 
 goes-down-requires : tie.Need-goes-down-requires
 goes-down-requires c κs = search needs
@@ -73,7 +73,7 @@ returns-2 c =
     let e1 = ru .before .before .before in
     let s = e1 .before .before .before .before .before .before .before .before .before .before in
     let a = s .args in
-    step-stop (tableOf (a .ids .now) (a .ends .now) (a .raws .now)) (a .edit) (a .deep) (a .last) (a .below .now) (a .name .now) (a .ed) (a .plens .now) (a .paths .now) (a .tlens .now) (a .trees .now) (s .pre .0) (s .pre .1) (a .slot) (s .pre .2) (sf .seen-for .result) (tf .turn-of .result) (tf .turn-of .ensures) (λ h. sf .seen-for .ensures h ∙ ap (λ (z : Tree). partsOf (entryOf (a .name .now) z)) (ap (unpack 20) (ru .run .ensures) ∙ tree-run 20 (a .ed) (a .plens .now) (a .paths .now) (a .tlens .now) (a .trees .now) (s .pre .0) (a .slot) (s .pre .2 .low))) (e1 .if1 .left) (m .apply .ensures) (sym (gd .goes-down .ensures (a .name .now) (treeOf 20 (a .tlens .now) (a .trees .now) (a .slot))) ∙ not-true _ (c .before .if2 .taken)) (c .end-code .ensures)
+    step-stop (tableOf (a .ids .now) (a .ends .now) (a .raws .now)) (a .edit) (a .opening) (a .last) (a .below .now) (a .name .now) (a .ed) (a .plens .now) (a .paths .now) (a .tlens .now) (a .trees .now) (s .pre .0) (s .pre .1) (a .slot) (s .pre .2) (sf .seen-for .result) (tf .turn-of .result) (tf .turn-of .ensures) (λ h. sf .seen-for .ensures h ∙ ap (λ (z : Tree). partsOf (entryOf (a .name .now) z)) (ap (unpack 20) (ru .run .ensures) ∙ tree-run 20 (a .ed) (a .plens .now) (a .paths .now) (a .tlens .now) (a .trees .now) (s .pre .0) (a .slot) (s .pre .2 .low))) (e1 .if1 .left) (m .apply .ensures) (sym (gd .goes-down .ensures (a .name .now) (treeOf 20 (a .tlens .now) (a .trees .now) (a .slot))) ∙ not-true _ (c .before .if2 .taken)) (c .end-code .ensures)
 
 go-down-requires : tie.Need-go-down-requires
 go-down-requires c κs =
@@ -87,9 +87,9 @@ go-down-requires c κs =
     let s = e1 .before .before .before .before .before .before .before .before .before .before in
     let a = s .args in (
       m .apply .ensures .laid,
-      still-closed (tableOf (a .ids .now) (a .ends .now) (a .raws .now)) (a .edit) (a .deep) (a .last) (a .below .now) (a .name .now) (a .ed) (a .plens .now) (a .paths .now) (a .tlens .now) (a .trees .now) (s .pre .0) (s .pre .1) (a .slot) (s .pre .2) (sf .seen-for .result) (tf .turn-of .result) (tf .turn-of .ensures) (λ h. sf .seen-for .ensures h ∙ ap (λ (z : Tree). partsOf (entryOf (a .name .now) z)) (ap (unpack 20) (ru .run .ensures) ∙ tree-run 20 (a .ed) (a .plens .now) (a .paths .now) (a .tlens .now) (a .trees .now) (s .pre .0) (a .slot) (s .pre .2 .low))) (e1 .if1 .left) (m .apply .ensures),
+      still-closed (tableOf (a .ids .now) (a .ends .now) (a .raws .now)) (a .edit) (a .opening) (a .last) (a .below .now) (a .name .now) (a .ed) (a .plens .now) (a .paths .now) (a .tlens .now) (a .trees .now) (s .pre .0) (s .pre .1) (a .slot) (s .pre .2) (sf .seen-for .result) (tf .turn-of .result) (tf .turn-of .ensures) (λ h. sf .seen-for .ensures h ∙ ap (λ (z : Tree). partsOf (entryOf (a .name .now) z)) (ap (unpack 20) (ru .run .ensures) ∙ tree-run 20 (a .ed) (a .plens .now) (a .paths .now) (a .tlens .now) (a .trees .now) (s .pre .0) (a .slot) (s .pre .2 .low))) (e1 .if1 .left) (m .apply .ensures),
       s .pre .3,
-      down-fits (tableOf (a .ids .now) (a .ends .now) (a .raws .now)) (a .edit) (a .deep) (a .last) (a .below .now) (a .name .now) (a .ed) (a .plens .now) (a .paths .now) (a .tlens .now) (a .trees .now) (s .pre .0) (s .pre .1) (a .slot) (s .pre .2) (sf .seen-for .result) (tf .turn-of .result) (tf .turn-of .ensures) (λ h. sf .seen-for .ensures h ∙ ap (λ (z : Tree). partsOf (entryOf (a .name .now) z)) (ap (unpack 20) (ru .run .ensures) ∙ tree-run 20 (a .ed) (a .plens .now) (a .paths .now) (a .tlens .now) (a .trees .now) (s .pre .0) (a .slot) (s .pre .2 .low))) (e1 .if1 .left) (m .apply .ensures) (sym (gd .goes-down .ensures (a .name .now) (treeOf 20 (a .tlens .now) (a .trees .now) (a .slot))) ∙ not-false _ (e2 .if2 .left)) (s .pre .5),
+      down-fits (tableOf (a .ids .now) (a .ends .now) (a .raws .now)) (a .edit) (a .opening) (a .last) (a .below .now) (a .name .now) (a .ed) (a .plens .now) (a .paths .now) (a .tlens .now) (a .trees .now) (s .pre .0) (s .pre .1) (a .slot) (s .pre .2) (sf .seen-for .result) (tf .turn-of .result) (tf .turn-of .ensures) (λ h. sf .seen-for .ensures h ∙ ap (λ (z : Tree). partsOf (entryOf (a .name .now) z)) (ap (unpack 20) (ru .run .ensures) ∙ tree-run 20 (a .ed) (a .plens .now) (a .paths .now) (a .tlens .now) (a .trees .now) (s .pre .0) (a .slot) (s .pre .2 .low))) (e1 .if1 .left) (m .apply .ensures) (sym (gd .goes-down .ensures (a .name .now) (treeOf 20 (a .tlens .now) (a .trees .now) (a .slot))) ∙ not-false _ (e2 .if2 .left)) (s .pre .5),
     )
 
 same-length-5 : tie.Need-same-length-5
@@ -116,7 +116,7 @@ returns-3 c =
     let e1 = ru .before .before .before in
     let s = e1 .before .before .before .before .before .before .before .before .before .before in
     let a = s .args in
-    step-on (tableOf (a .ids .now) (a .ends .now) (a .raws .now)) (a .edit) (a .deep) (a .last) (a .below .now) (a .name .now) (a .ed) (a .plens .now) (a .paths .now) (a .tlens .now) (a .trees .now) (s .pre .0) (s .pre .1) (a .slot) (s .pre .2) (sf .seen-for .result) (tf .turn-of .result) (tf .turn-of .ensures) (λ h. sf .seen-for .ensures h ∙ ap (λ (z : Tree). partsOf (entryOf (a .name .now) z)) (ap (unpack 20) (ru .run .ensures) ∙ tree-run 20 (a .ed) (a .plens .now) (a .paths .now) (a .tlens .now) (a .trees .now) (s .pre .0) (a .slot) (s .pre .2 .low))) (e1 .if1 .left) (m .apply .ensures) (sym (gd .goes-down .ensures (a .name .now) (treeOf 20 (a .tlens .now) (a .trees .now) (a .slot))) ∙ not-false _ (e2 .if2 .left)) (g .go-down .ensures)
+    step-on (tableOf (a .ids .now) (a .ends .now) (a .raws .now)) (a .edit) (a .opening) (a .last) (a .below .now) (a .name .now) (a .ed) (a .plens .now) (a .paths .now) (a .tlens .now) (a .trees .now) (s .pre .0) (s .pre .1) (a .slot) (s .pre .2) (sf .seen-for .result) (tf .turn-of .result) (tf .turn-of .ensures) (λ h. sf .seen-for .ensures h ∙ ap (λ (z : Tree). partsOf (entryOf (a .name .now) z)) (ap (unpack 20) (ru .run .ensures) ∙ tree-run 20 (a .ed) (a .plens .now) (a .paths .now) (a .tlens .now) (a .trees .now) (s .pre .0) (a .slot) (s .pre .2 .low))) (e1 .if1 .left) (m .apply .ensures) (sym (gd .goes-down .ensures (a .name .now) (treeOf 20 (a .tlens .now) (a .trees .now) (a .slot))) ∙ not-false _ (e2 .if2 .left)) (g .go-down .ensures)
 
 pub step-spec : {M : Type 1} → statement M
 step-spec =

@@ -16,25 +16,25 @@ use Rattle.editor_walk.proofs.apply.walk.Statement.{statement}
 use Rattle.editor_walk.proofs.apply.walk.Tie as tie
 
 abbrev Inv-loop : tie.InvT-loop
-Inv-loop plens₀ paths₀ tlens₀ trees₀ ids ends raws full path edit deep slot p₀ e₀ at₀ plens paths tlens trees p e at =
-    Walking (tableOf ids ends raws) (asEdit edit) deep
-    (model.walk sha1 (tableOf ids ends raws) (asEdit edit) deep (components path) (pathOf plens₀ paths₀ slot) (viewOf 20 e₀ plens₀ paths₀ tlens₀ trees₀)) e₀ full e plens paths tlens trees p at
+Inv-loop plens₀ paths₀ tlens₀ trees₀ ids ends raws full path edit opening slot p₀ e₀ at₀ plens paths tlens trees p e at =
+    Walking (tableOf ids ends raws) (asEdit edit) opening
+    (model.walk sha1 (tableOf ids ends raws) (asEdit edit) opening (components path) (pathOf plens₀ paths₀ slot) (viewOf 20 e₀ plens₀ paths₀ tlens₀ trees₀)) e₀ full e plens paths tlens trees p at
 
 abbrev μ-loop : tie.MeasureT-loop
-μ-loop plens₀ paths₀ tlens₀ trees₀ ids ends raws full path edit deep slot p₀ e₀ at₀ plens paths tlens trees p e at =
+μ-loop plens₀ paths₀ tlens₀ trees₀ ids ends raws full path edit opening slot p₀ e₀ at₀ plens paths tlens trees p e at =
     length p
 
 returns : tie.Need-returns Inv-loop μ-loop
 returns c =
     let s = c .before .before .before .before .before .before .before .before .before .before in
     let a = s .args in
-    walk-empty (tableOf (a .ids .now) (a .ends .now) (a .raws .now)) (asEdit (a .edit)) (a .deep) (a .ed) (a .plens .now) (a .paths .now) (a .tlens .now) (a .trees .now) (s .pre .0) (s .pre .1) (a .slot) (a .path .now) (c .if1 .taken)
+    walk-empty (tableOf (a .ids .now) (a .ends .now) (a .raws .now)) (asEdit (a .edit)) (a .opening) (a .ed) (a .plens .now) (a .paths .now) (a .tlens .now) (a .trees .now) (s .pre .0) (s .pre .1) (a .slot) (a .path .now) (c .if1 .taken)
 
 loop-holds : tie.Need-loop-holds Inv-loop μ-loop
 loop-holds c =
     let s = c .before .before .before .before .before .before .before .before .before .before in
     let a = s .args in
-    walk-begin (tableOf (a .ids .now) (a .ends .now) (a .raws .now)) (asEdit (a .edit)) (a .deep) (a .ed) (a .plens .now) (a .paths .now) (a .tlens .now) (a .trees .now) (s .pre .0) (s .pre .1) (a .slot) (a .path .now) (a .full .now) (s .pre .2) (s .pre .4) (s .pre .5) (s .pre .6) (c .if1 .left)
+    walk-begin (tableOf (a .ids .now) (a .ends .now) (a .raws .now)) (asEdit (a .edit)) (a .opening) (a .ed) (a .plens .now) (a .paths .now) (a .tlens .now) (a .trees .now) (s .pre .0) (s .pre .1) (a .slot) (a .path .now) (a .full .now) (s .pre .2) (s .pre .4) (s .pre .5) (s .pre .6) (c .if1 .left)
 
 component-len-requires : tie.Need-component-len-requires Inv-loop μ-loop
 component-len-requires c κs =

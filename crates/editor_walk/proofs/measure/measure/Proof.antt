@@ -20,18 +20,18 @@ use Rattle.editor_walk.proofs.measure.measure.Statement.{statement}
 use Rattle.editor_walk.proofs.measure.measure.Tie as tie
 
 abbrev Inv-loop : tie.InvT-loop
-Inv-loop ed plens paths tlens trees ids ends raws full path edit deep slot p₀ level₀ u₀ p level u =
-    Measuring (tableOf ids ends raws) (asEdit edit) deep (viewOf 20 ed plens paths tlens trees) tlens trees raws full
-    (model.measure sha1 (tableOf ids ends raws) (asEdit edit) deep (pathOf plens paths slot) path (viewOf 20 ed plens paths tlens trees) .kept) p level (countsAs u)
+Inv-loop ed plens paths tlens trees ids ends raws full path edit opening slot p₀ level₀ u₀ p level u =
+    Measuring (tableOf ids ends raws) (asEdit edit) opening (viewOf 20 ed plens paths tlens trees) tlens trees raws full
+    (model.measure sha1 (tableOf ids ends raws) (asEdit edit) opening (pathOf plens paths slot) path (viewOf 20 ed plens paths tlens trees) .kept) p level (countsAs u)
 
 abbrev μ-loop : tie.MeasureT-loop
-μ-loop ed plens paths tlens trees ids ends raws full path edit deep slot p₀ level₀ u₀ p level u = length p
+μ-loop ed plens paths tlens trees ids ends raws full path edit opening slot p₀ level₀ u₀ p level u = length p
 
 returns : tie.Need-returns Inv-loop μ-loop
 returns c =
     let s = c .before .before .before .before .before .before .before .before .before .before in
     let a = s .args in
-    measure-empty (tableOf (a .ids .now) (a .ends .now) (a .raws .now)) (asEdit (a .edit)) (a .deep) (pathOf (a .plens .now) (a .paths .now) (a .slot)) (a .path .now) (viewOf 20 (a .ed) (a .plens .now) (a .paths .now) (a .tlens .now) (a .trees .now)) (c .if1 .taken)
+    measure-empty (tableOf (a .ids .now) (a .ends .now) (a .raws .now)) (asEdit (a .edit)) (a .opening) (pathOf (a .plens .now) (a .paths .now) (a .slot)) (a .path .now) (viewOf 20 (a .ed) (a .plens .now) (a .paths .now) (a .tlens .now) (a .trees .now)) (c .if1 .taken)
 
 counts-of-requires : tie.Need-counts-of-requires Inv-loop μ-loop
 counts-of-requires c κs =
@@ -41,7 +41,7 @@ loop-holds : tie.Need-loop-holds Inv-loop μ-loop
 loop-holds c =
     let s = c .before .before .before .before .before .before .before .before .before .before .before in
     let a = s .args in
-    measure-begin (tableOf (a .ids .now) (a .ends .now) (a .raws .now)) (asEdit (a .edit)) (a .deep) (a .ed) (a .plens .now) (a .paths .now) (a .tlens .now) (a .trees .now) (a .raws .now) (a .full .now) (a .path .now) (a .slot) (s .pre .0) (s .pre .2) (s .pre .4) (s .pre .5)
+    measure-begin (tableOf (a .ids .now) (a .ends .now) (a .raws .now)) (asEdit (a .edit)) (a .opening) (a .ed) (a .plens .now) (a .paths .now) (a .tlens .now) (a .trees .now) (a .raws .now) (a .full .now) (a .path .now) (a .slot) (s .pre .0) (s .pre .2) (s .pre .4) (s .pre .5)
     (c .before .if1 .left) (countsAs (c .counts-of .result)) (c .counts-of .ensures)
 
 component-len-requires : tie.Need-component-len-requires Inv-loop μ-loop
