@@ -3,7 +3,7 @@
 # The default library is the proved one (tools/library.sh). CFLAGS are handed on.
 set -euo pipefail
 cd "$(dirname "$0")/../.."
-library=${1:-$(tools/library.sh)} program=${2:-target/driver/trace} source=${3:-driver/trace.c}
+library=${1:-$(tools/library.sh)} program=${2:-target/driver/trace} source=${3:-tests/driver/trace.c}
 mkdir -p "$(dirname "$program")"
 # shellcheck disable=SC2086
-cc -std=c11 -D_DEFAULT_SOURCE -O2 -Wall -Wextra -Iinclude -Idriver ${CFLAGS-} -o "$program" "$source" "$library"
+cc -std=c11 -D_DEFAULT_SOURCE -O2 -Wall -Wextra -Iinclude -Itests/driver ${CFLAGS-} -o "$program" "$source" "$library"

@@ -25,9 +25,8 @@ static size_t count[ARRAYS]; /* elements that are lent */
 static bool made;            /* whether an editor was made since the last `trace` */
 static bool holds;           /* what tree_editor_holds said after the last call */
 
-/* Record and arrays as they were before the call; `kept` where the arrays are still so. */
+/* The record as it was before the call; `kept` where the arrays are as they were before it. */
 static tree_editor ed_before;
-static uint8_t *before[ARRAYS];
 static bool kept;
 
 /* Inputs and outputs of calls. */
@@ -53,9 +52,6 @@ static void forget(void)
             seed ^= seed << 13, seed ^= seed >> 7, seed ^= seed << 17;
             at[n] = (uint8_t)(seed >> 32);
         }
-        before[k] = realloc(before[k], array[k].len);
-        if (!before[k])
-            abort();
     }
     memcpy(&ed, array[TREES].at, sizeof ed);
     ed.open |= 1 << 20;
@@ -79,32 +75,31 @@ static void add_object(const uint8_t *object, const uint8_t *bytes, size_t len)
 
 /* ---- calls ---- */
 
+/* Lengths and outputs of lengths have 64 bits. */
+typedef uint64_t length;
+
 enum op { NEW, SET_ROOT, UPSERT, REMOVE, LEAF, CURSOR, GET, BEGIN, REQUEST, ANSWER, ONWARD, FAIL };
 
 #define LENT(l) (l).at, (l).len
-#define READ_TO LENT(out), LENT(out_path), (size_t *)(void *)out_lens.at, out_lens.len / sizeof(size_t)
+#define READ_TO LENT(out), LENT(out_path), (length *)(void *)out_lens.at, out_lens.len / sizeof(length)
 #define ONE_ARRAY(k) (void *)array[k].at, count[k]
 #define STORE ONE_ARRAY(PLENS), ONE_ARRAY(PATHS), ONE_ARRAY(TLENS), ONE_ARRAY(TREES), ONE_ARRAY(ORDER)
 #define TABLE LENT(ids), (const uint32_t *)(const void *)ends.at, ends.len / sizeof(uint32_t), LENT(raws)
 
-/* The call itself, with what is lent; `below` makes it a cursor's, at `prefix`. */
+/* The call itself, with what is lent; `below` makes it a cursor's, at `prefix`, and else it is one from the root. */
 static uint32_t call(enum op op, bool below)
 {
+    const uint8_t *from = below ? prefix.at : NULL;
+    length from_len = below ? prefix.len : 0;
     switch (op) {
     case NEW: return tree_editor_new(&ed, STORE, LENT(raw));
     case SET_ROOT: return tree_editor_set_root(&ed, STORE, LENT(raw));
-    case UPSERT:
-        return below ? tree_editor_upsert_at(&ed, STORE, TABLE, LENT(prefix), LENT(path), LENT(id), mode)
-                     : tree_editor_upsert(&ed, STORE, TABLE, LENT(path), LENT(id), mode);
-    case REMOVE:
-        return below ? tree_editor_remove_at(&ed, STORE, TABLE, LENT(prefix), LENT(path)) : tree_editor_remove(&ed, STORE, TABLE, LENT(path));
-    case LEAF:
-        return below ? tree_editor_remove_leaf_at(&ed, STORE, TABLE, LENT(prefix), LENT(path))
-                     : tree_editor_remove_leaf(&ed, STORE, TABLE, LENT(path));
+    case UPSERT: return tree_editor_upsert(&ed, STORE, TABLE, from, from_len, LENT(path), LENT(id), mode);
+    case REMOVE: return tree_editor_remove(&ed, STORE, TABLE, from, from_len, LENT(path));
+    case LEAF: return tree_editor_remove_leaf(&ed, STORE, TABLE, from, from_len, LENT(path));
     case CURSOR: return tree_editor_cursor_at(&ed, STORE, TABLE, LENT(path));
-    case GET:
-        return below ? tree_editor_get_at(ed, STORE, LENT(prefix), LENT(path), LENT(out_id)) : tree_editor_get(ed, STORE, LENT(path), LENT(out_id));
-    case BEGIN: return below ? tree_editor_begin_at(&ed, STORE, LENT(prefix)) : tree_editor_begin(&ed, STORE);
+    case GET: return tree_editor_get(ed, STORE, from, from_len, LENT(path), LENT(out_id));
+    case BEGIN: return below ? tree_editor_begin_at(&ed, STORE, from, from_len) : tree_editor_begin(&ed, STORE);
     case REQUEST: return tree_editor_request(ed, STORE, READ_TO);
     case ANSWER: return tree_editor_answer(&ed, STORE, LENT(id));
     case ONWARD: return tree_editor_answer_and_request(&ed, STORE, LENT(id), READ_TO, LENT(out_next));
@@ -117,7 +112,7 @@ static void keep(void)
 {
     ed_before = ed;
     for (int k = 0; k < ARRAYS && !kept; k++)
-        memcpy(before[k], array[k].at, array[k].len);
+        lent_keep(&array[k]);
     kept = true;
 }
 
@@ -125,7 +120,7 @@ static void restore(void)
 {
     ed = ed_before;
     for (int k = 0; k < ARRAYS; k++)
-        memcpy(array[k].at, before[k], array[k].len);
+        lent_restore(&array[k]);
     kept = true;
 }
 
@@ -135,26 +130,32 @@ static bool changed(bool behind)
     bool other = !behind && memcmp(&ed, &ed_before, sizeof ed);
     for (int k = 0; k < ARRAYS; k++) {
         size_t from = behind ? need[k] * wide[k] : 0;
-        other = other || memcmp(array[k].at + from, before[k] + from, array[k].len - from) || !lent_marked(&array[k], array[k].len);
+        other = other || !lent_same(&array[k], from) || !lent_margin(&array[k]);
     }
     return other;
 }
 
-static size_t length_given(int k)
+static length length_given(int k)
 {
-    size_t len;
+    length len;
     memcpy(&len, out_lens.at + (size_t)k * sizeof len, sizeof len);
     return len;
 }
 
-/* Whether outputs are marked where the call may not have written: behind what it gave back, everywhere where it was refused. */
+/* Whether an output is as it was lent from `from` on, and its margin too. */
+static bool untouched(const struct lent *l, size_t from)
+{
+    return lent_same(l, from) && lent_margin(l);
+}
+
+/* Whether outputs are as they were lent where the call may not have written: behind what it gave back, everywhere where it was refused. */
 static bool outputs_kept(enum op op, uint32_t number)
 {
     if (op == GET)
-        return lent_marked(&out_id, number >= TREE_EDITOR_TREE ? TREE_EDITOR_ID : 0);
+        return untouched(&out_id, number >= TREE_EDITOR_TREE ? TREE_EDITOR_ID : 0);
     if (op == ONWARD) {
         bool looked = number != TREE_EDITOR_BAD_ARGUMENT;
-        if (!lent_marked(&out_next, looked))
+        if (!untouched(&out_next, looked))
             return false;
         number = looked ? out_next.at[0] : number;
     } else if (op != REQUEST) {
@@ -163,8 +164,8 @@ static bool outputs_kept(enum op op, uint32_t number)
     bool done = number == TREE_EDITOR_DONE;
     if (done && (length_given(0) > out.len || length_given(1) > out_path.len))
         return false;
-    return lent_marked(&out, done ? length_given(0) : 0) && lent_marked(&out_path, done ? length_given(1) : 0)
-        && lent_marked(&out_lens, (done ? 2 : number == TREE_EDITOR_OUTPUT_SHORT ? 1 : 0) * sizeof(size_t));
+    return untouched(&out, done ? length_given(0) : 0) && untouched(&out_path, done ? length_given(1) : 0)
+        && untouched(&out_lens, (done ? 2 : number == TREE_EDITOR_OUTPUT_SHORT ? 1 : 0) * sizeof(length));
 }
 
 /* A call that has to be refused with this number. */
@@ -207,9 +208,11 @@ static void probe(enum op op, bool below)
         refused(op, below, TREE_EDITOR_BAD_ARGUMENT, "id long");
         id.len--, id.at++;
     }
-    if (op == GET && call(op, below) >= TREE_EDITOR_TREE) {
+    if (op == GET) {
         lend(&out_id, TREE_EDITOR_ID - 1);
-        refused(op, below, TREE_EDITOR_OUTPUT_SHORT, "id output short");
+        refused(op, below, TREE_EDITOR_BAD_ARGUMENT, "id output short");
+        lend(&out_id, 0);
+        refused(op, below, TREE_EDITOR_BAD_ARGUMENT, "no id output");
     }
     if (op == ONWARD) {
         lend(&out_next, 0);
@@ -218,7 +221,7 @@ static void probe(enum op op, bool below)
     }
     if (op == REQUEST || op == ONWARD) {
         size_t right = out_lens.len;
-        out_lens.len = sizeof(size_t);
+        out_lens.len = sizeof(length);
         refused(op, below, TREE_EDITOR_BAD_ARGUMENT, "lens short");
         out_lens.len = right;
         right = out_path.len;
@@ -244,7 +247,7 @@ static uint32_t checked(enum op op, bool below)
     kept = stays;
     if (changed(true) || !outputs_kept(op, number))
         printf("PAST\n");
-    if (number > TREE_EDITOR_BAD_ARGUMENT && (op != GET || number < TREE_EDITOR_TREE))
+    if (number > TREE_EDITOR_STORE_DAMAGED && (op != GET || number < TREE_EDITOR_TREE))
         printf("NUMBER\n");
     made = made || (op == NEW && number == TREE_EDITOR_DONE);
     holds = tree_editor_holds(ed, STORE);
@@ -258,7 +261,7 @@ static uint32_t reading(enum op op, size_t room)
 {
     lend(&out, room);
     lend(&out_path, TREE_EDITOR_PATH + extra());
-    lend(&out_lens, (2 + extra()) * sizeof(size_t));
+    lend(&out_lens, (2 + extra()) * sizeof(length));
     return checked(op, false);
 }
 

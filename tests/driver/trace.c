@@ -22,7 +22,7 @@
 #include <stdlib.h>
 #include <string.h>
 
-#include "../examples/c/sha1.h"
+#include "../../examples/c/sha1.h"
 #include "bytes.h"
 #include "calls.h"
 #include "tree_editor.h"
@@ -165,7 +165,7 @@ static uint32_t next_request(void)
         return TREE_EDITOR_DONE;
     if (ahead != TREE_EDITOR_OUTPUT_SHORT)
         return request(TREE_EDITOR_OUTPUT);
-    size_t needed = length_given(0);
+    length needed = length_given(0);
     uint32_t number = request(needed);
     if (needed != length_given(0))
         puts("NUMBER");
@@ -194,7 +194,7 @@ static void says_read(size_t room)
 {
     uint32_t number = request(room);
     if (number == TREE_EDITOR_OUTPUT_SHORT) {
-        printf("%s => %u %zu\n", line, number, length_given(0));
+        printf("%s => %u %zu\n", line, number, (size_t)length_given(0));
     } else if (number != TREE_EDITOR_DONE) {
         says(number);
     } else {

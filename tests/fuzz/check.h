@@ -1,4 +1,4 @@
-/* What docs/STORE.md and document 01 say of stores and raw trees, written from those pages and not from the library's code. */
+/* What docs/STORE.md and docs/RULES.md say of stores and raw trees, written from those pages and not from the library's code. */
 #ifndef CHECK_H
 #define CHECK_H
 

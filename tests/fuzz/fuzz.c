@@ -1,4 +1,4 @@
-/* Random calls of the C functions over good and damaged stores, in memory that shows every touch beside a lent buffer (lend.h).
+/* Random calls of the C functions over good and damaged stores, in memory that shows every touch beside a lent buffer (lent.h).
  *
  *   fuzz SEED COUNT FOLDER [STORES]
  *
@@ -11,7 +11,7 @@
  * holds an editor. Status 1 with the first thing that isn't so. */
 #define _DEFAULT_SOURCE
 #include "check.h"
-#include "lend.h"
+#include "lent.h"
 #include "make.h"
 #include "stack.h"
 
@@ -23,31 +23,9 @@
 
 enum { EXTRA = 16, MODE = 040000 };
 
-typedef enum {
-    NEW,
-    SET_ROOT,
-    UPSERT,
-    UPSERT_AT,
-    REMOVE,
-    REMOVE_AT,
-    REMOVE_LEAF,
-    REMOVE_LEAF_AT,
-    CURSOR_AT,
-    GET,
-    GET_AT,
-    BEGIN,
-    BEGIN_AT,
-    REQUEST,
-    ANSWER,
-    ONWARD,
-    FAIL,
-    HOLDS,
-    OPS
-} op;
-static const char *const names[OPS] = {"new",         "set_root",       "upsert",    "upsert_at", "remove", "remove_at",
-                                       "remove_leaf", "remove_leaf_at", "cursor_at", "get",       "get_at", "begin",
-                                       "begin_at",    "request",        "answer",    "answer_and_request",
-                                       "fail",        "holds"};
+typedef enum { NEW, SET_ROOT, UPSERT, REMOVE, REMOVE_LEAF, CURSOR_AT, GET, BEGIN, BEGIN_AT, REQUEST, ANSWER, ONWARD, FAIL, HOLDS, OPS } op;
+static const char *const names[OPS] = {"new",   "set_root", "upsert",  "remove", "remove_leaf",        "cursor_at", "get",
+                                       "begin", "begin_at", "request", "answer", "answer_and_request", "fail",      "holds"};
 
 /* A record and five arrays with room for more than their fronts, and how much of them is lent. */
 typedef struct {
@@ -57,18 +35,26 @@ typedef struct {
     size_t plens_len, paths_len, tlens_len, trees_len, order_len;
 } image;
 
+/* `from_root`: the prefix has no bytes, and the call is written down as the editor's own and not as a cursor's. */
 typedef struct {
     op op;
+    int from_root;
     bytes prefix, path, raw;
     uint8_t id[40];
     size_t id_len, out_len, at_len, lens_len, next_len;
     uint32_t mode;
 } call;
 
-/* What is lent to the call at hand. */
-static struct { lend_area ed, plens, paths, tlens, trees, order, ids, ends, raws, prefix, path, id, raw, out, at, lens, next; } lent;
+/* What is lent to the call at hand. `given`: the bytes, or a null pointer for none. */
+typedef struct {
+    struct lent mem;
+    uint8_t *given;
+} area;
+static struct { area ed, plens, paths, tlens, trees, order, ids, ends, raws, prefix, path, id, raw, out, at, lens, next; } lent;
 
-static uint64_t seed, calls, counts[3][OPS][16];
+/* Numbers by kind of store and call: up to 13 by themselves, then BAD_ARGUMENT, and lookups that find an entry. */
+enum { COUNT_BAD = TREE_EDITOR_STORE_DAMAGED + 1, COUNT_FOUND, COUNTS };
+static uint64_t seed, calls, counts[3][OPS][COUNTS];
 static size_t deepest[OPS];
 static op current;
 static FILE *to_calls, *to_answers, *held, *held_calls, *held_answers;
@@ -85,7 +71,9 @@ static void on_fault(int signal) {
     differs("touched memory beside a lent buffer, or ended otherwise");
 }
 
-static int reads(op o) { return o == GET || o == GET_AT || o == REQUEST || o == HOLDS; }
+static int reads(op o) { return o == GET || o == REQUEST || o == HOLDS; }
+/* Edits and the lookup: their prefix may have no bytes. */
+static int has_prefix(op o) { return o == UPSERT || o == REMOVE || o == REMOVE_LEAF || o == GET; }
 
 /* ---- one call, with all that is to be so of any call ---- */
 
@@ -95,14 +83,14 @@ static check_lent as_lent(const image *im) {
 }
 
 /* Lends an area, at one of its two ends; no bytes may also be a null pointer. */
-static void hand(lend_area *a, const void *from, size_t n) {
-    a->given = lend(a, from, n, !make_once(4));
+static void hand(area *a, const void *from, size_t n) {
+    a->given = lend_at(&a->mem, from, n, !make_once(4));
     if (n == 0 && make_once(4)) a->given = NULL;
 }
 
+static int same(const area *a, size_t from) { return lent_same(&a->mem, from); }
+
 static void lend_all(const image *im, const call *c, const table *t) {
-    static uint8_t spare[TREE_EDITOR_OUTPUT + EXTRA];
-    if (!spare[0]) memset(spare, 0x5a, sizeof spare);
     hand(&lent.ed, &im->ed, sizeof im->ed);
     hand(&lent.plens, im->plens, im->plens_len * 8);
     hand(&lent.paths, im->paths, im->paths_len);
@@ -116,33 +104,33 @@ static void lend_all(const image *im, const call *c, const table *t) {
     hand(&lent.path, c->path.at, c->path.len);
     hand(&lent.id, c->id, c->id_len);
     hand(&lent.raw, c->raw.at, c->raw.len);
-    hand(&lent.out, spare, c->out_len);
-    hand(&lent.at, spare, c->at_len);
-    hand(&lent.lens, spare, c->lens_len * sizeof(size_t));
-    hand(&lent.next, spare, c->next_len);
+    hand(&lent.out, NULL, c->out_len);
+    hand(&lent.at, NULL, c->at_len);
+    hand(&lent.lens, NULL, c->lens_len * sizeof(uint64_t));
+    hand(&lent.next, NULL, c->next_len);
 }
 
 #define EDIT (tree_editor *)(void *)lent.ed.given, STORE
 #define WORDS(a) (uint64_t *)(void *)lent.a.given, im->a##_len
 #define STORE WORDS(plens), lent.paths.given, im->paths_len, WORDS(tlens), lent.trees.given, im->trees_len, WORDS(order)
 #define TABLE LENT(ids), (uint32_t *)(void *)lent.ends.given, t->count, LENT(raws)
-#define LENT(a) lent.a.given, lent.a.bytes
-#define READ_TO LENT(out), LENT(at), (size_t *)(void *)lent.lens.given, c->lens_len
+#define LENT(a) lent.a.given, lent.a.mem.len
+#define READ_TO LENT(out), LENT(at), (uint64_t *)(void *)lent.lens.given, c->lens_len
+
+/* The lengths that a reading gave, and the second number of an answer. */
+static const uint64_t *lengths(void) { return (const uint64_t *)(const void *)lent.lens.mem.at; }
+static uint8_t second(void) { return lent.next.mem.at[0]; }
 
 static __attribute__((noinline)) uint32_t make_call(const image *im, const call *c, const table *t) {
     stack_from(__builtin_frame_address(0));
     switch (c->op) {
     case NEW: return tree_editor_new(EDIT, LENT(raw));
     case SET_ROOT: return tree_editor_set_root(EDIT, LENT(raw));
-    case UPSERT: return tree_editor_upsert(EDIT, TABLE, LENT(path), LENT(id), c->mode);
-    case UPSERT_AT: return tree_editor_upsert_at(EDIT, TABLE, LENT(prefix), LENT(path), LENT(id), c->mode);
-    case REMOVE: return tree_editor_remove(EDIT, TABLE, LENT(path));
-    case REMOVE_AT: return tree_editor_remove_at(EDIT, TABLE, LENT(prefix), LENT(path));
-    case REMOVE_LEAF: return tree_editor_remove_leaf(EDIT, TABLE, LENT(path));
-    case REMOVE_LEAF_AT: return tree_editor_remove_leaf_at(EDIT, TABLE, LENT(prefix), LENT(path));
+    case UPSERT: return tree_editor_upsert(EDIT, TABLE, LENT(prefix), LENT(path), LENT(id), c->mode);
+    case REMOVE: return tree_editor_remove(EDIT, TABLE, LENT(prefix), LENT(path));
+    case REMOVE_LEAF: return tree_editor_remove_leaf(EDIT, TABLE, LENT(prefix), LENT(path));
     case CURSOR_AT: return tree_editor_cursor_at(EDIT, TABLE, LENT(path));
-    case GET: return tree_editor_get(im->ed, STORE, LENT(path), LENT(id));
-    case GET_AT: return tree_editor_get_at(im->ed, STORE, LENT(prefix), LENT(path), LENT(id));
+    case GET: return tree_editor_get(im->ed, STORE, LENT(prefix), LENT(path), LENT(id));
     case BEGIN: return tree_editor_begin(EDIT);
     case BEGIN_AT: return tree_editor_begin_at(EDIT, LENT(prefix));
     case REQUEST: return tree_editor_request(im->ed, STORE, READ_TO);
@@ -178,68 +166,73 @@ static int known_mode(uint32_t m) {
            m == TREE_EDITOR_COMMIT;
 }
 
-/* The number that the call has to give by the check alone; -1: another than 13 and 14. */
+/* Whether the header names the arguments as bad: BAD_ARGUMENT then comes before all else. */
+static int bad_arguments(const call *c) {
+    if (c->op == UPSERT && !known_mode(c->mode)) return 1;
+    if ((c->op == UPSERT || c->op == ANSWER || c->op == ONWARD) && c->id_len != TREE_EDITOR_ID) return 1;
+    if (c->op == GET && c->id_len < TREE_EDITOR_ID) return 1;
+    if ((c->op == REQUEST || c->op == ONWARD) && (c->lens_len < 2 || c->at_len < TREE_EDITOR_PATH)) return 1;
+    return c->op == ONWARD && c->next_len < 1;
+}
+
+/* The number that the call has to give by the check alone; -1: another than 13 and BAD_ARGUMENT. */
 static int foretold(const check_lent *s, const call *c) {
-    if ((c->op == UPSERT || c->op == UPSERT_AT) && (!known_mode(c->mode) || c->id_len != 20)) return 14;
-    if ((c->op == ANSWER || c->op == ONWARD) && c->id_len != 20) return 14;
-    if ((c->op == REQUEST || c->op == ONWARD) && (c->lens_len < 2 || c->at_len < TREE_EDITOR_PATH)) return 14;
-    if (c->op == ONWARD && c->next_len < 1) return 14;
+    if (bad_arguments(c)) return TREE_EDITOR_BAD_ARGUMENT;
     if (c->op == NEW) return check_long_enough(s) ? check_root(c->raw.at, c->raw.len) : 13;
     if (c->op == HOLDS) return check_holds(s);
     return check_holds(s) ? -1 : 13;
 }
 
 static int store_same(void) {
-    return lend_same(&lent.ed, 0) && lend_same(&lent.plens, 0) && lend_same(&lent.paths, 0) && lend_same(&lent.tlens, 0) &&
-           lend_same(&lent.trees, 0) && lend_same(&lent.order, 0);
+    return same(&lent.ed, 0) && same(&lent.plens, 0) && same(&lent.paths, 0) && same(&lent.tlens, 0) &&
+           same(&lent.trees, 0) && same(&lent.order, 0);
 }
 
 static int behind_same(void) {
-    return lend_same(&lent.plens, 8 * TREE_EDITOR_SLOTS) && lend_same(&lent.paths, TREE_EDITOR_PATHS) &&
-           lend_same(&lent.tlens, 8 * TREE_EDITOR_SLOTS) && lend_same(&lent.trees, TREE_EDITOR_TREES) &&
-           lend_same(&lent.order, 8 * TREE_EDITOR_SLOTS);
+    return same(&lent.plens, 8 * TREE_EDITOR_SLOTS) && same(&lent.paths, TREE_EDITOR_PATHS) &&
+           same(&lent.tlens, 8 * TREE_EDITOR_SLOTS) && same(&lent.trees, TREE_EDITOR_TREES) &&
+           same(&lent.order, 8 * TREE_EDITOR_SLOTS);
 }
 
 static int inputs_same(const call *c) {
-    int output = c->op == GET || c->op == GET_AT;
-    return lend_same(&lent.ids, 0) && lend_same(&lent.ends, 0) && lend_same(&lent.raws, 0) && lend_same(&lent.prefix, 0) &&
-           lend_same(&lent.path, 0) && lend_same(&lent.raw, 0) && (output || lend_same(&lent.id, 0));
+    int output = c->op == GET;
+    return same(&lent.ids, 0) && same(&lent.ends, 0) && same(&lent.raws, 0) && same(&lent.prefix, 0) &&
+           same(&lent.path, 0) && same(&lent.raw, 0) && (output || same(&lent.id, 0));
 }
 
 static int outputs_same(const call *c, uint32_t said) {
-    const size_t *lens = (const size_t *)(const void *)lent.lens.at;
-    if (c->op == GET || c->op == GET_AT) return lend_same(&lent.id, said >= MODE ? 20 : 0);
-    if (!lend_same(&lent.next, c->op == ONWARD && said != 14)) return 0;
-    if (c->op == ONWARD && said != 14) said = lent.next.at[0]; /* what was read after the answer */
-    if ((c->op != REQUEST && c->op != ONWARD) || said >= 12 || said == 10)
-        return lend_same(&lent.out, 0) && lend_same(&lent.at, 0) && lend_same(&lent.lens, 0);
-    if (!lend_same(&lent.lens, (said == 11 ? 1 : 2) * sizeof(size_t))) return 0;
-    if (said == 11) return lens[0] > c->out_len && lend_same(&lent.out, 0) && lend_same(&lent.at, 0);
-    return lens[0] <= c->out_len && lens[1] <= TREE_EDITOR_PATH && lend_same(&lent.out, lens[0]) && lend_same(&lent.at, lens[1]);
+    int looked = c->op == ONWARD && said != TREE_EDITOR_BAD_ARGUMENT;
+    if (c->op == GET) return same(&lent.id, said >= MODE ? TREE_EDITOR_ID : 0);
+    if (!same(&lent.next, looked)) return 0;
+    if (looked) said = second(); /* what was read after the answer */
+    if ((c->op != REQUEST && c->op != ONWARD) || (said != 0 && said != 11))
+        return same(&lent.out, 0) && same(&lent.at, 0) && same(&lent.lens, 0);
+    if (!same(&lent.lens, (said == 11 ? 1 : 2) * sizeof(uint64_t))) return 0;
+    if (said == 11) return lengths()[0] > c->out_len && same(&lent.out, 0) && same(&lent.at, 0);
+    return lengths()[0] <= c->out_len && lengths()[1] <= TREE_EDITOR_PATH && same(&lent.out, lengths()[0]) && same(&lent.at, lengths()[1]);
 }
 
 /* Whether the second number goes with the first: what reads the request after an answer is refused as the answer is, or finds a request or
  * none as the record says. */
 static int next_goes(const call *c, uint32_t said, const tree_editor *after) {
-    if (c->op != ONWARD || said == 14) return 1;
-    uint8_t next = lent.next.at[0];
-    return said ? next == said : after->open ? next == 0 || next == 11 : next == 10;
+    if (c->op != ONWARD || said == TREE_EDITOR_BAD_ARGUMENT) return 1;
+    return said ? second() == said : after->open ? second() == 0 || second() == 11 : second() == 10;
 }
 
 static int margins(void) {
-    const lend_area *all = (const lend_area *)&lent;
+    const area *all = (const area *)&lent;
     for (size_t i = 0; i < sizeof lent / sizeof *all; i++)
-        if (!lend_margins(&all[i])) return 0;
+        if (!lent_margin(&all[i].mem)) return 0;
     return 1;
 }
 
 static void take_back(image *im) {
-    memcpy(&im->ed, lent.ed.at, sizeof im->ed);
-    memcpy(im->plens, lent.plens.at, im->plens_len * 8);
-    memcpy(im->paths, lent.paths.at, im->paths_len);
-    memcpy(im->tlens, lent.tlens.at, im->tlens_len * 8);
-    memcpy(im->trees, lent.trees.at, im->trees_len);
-    memcpy(im->order, lent.order.at, im->order_len * 8);
+    memcpy(&im->ed, lent.ed.mem.at, sizeof im->ed);
+    memcpy(im->plens, lent.plens.mem.at, im->plens_len * 8);
+    memcpy(im->paths, lent.paths.mem.at, im->paths_len);
+    memcpy(im->tlens, lent.tlens.mem.at, im->tlens_len * 8);
+    memcpy(im->trees, lent.trees.mem.at, im->trees_len);
+    memcpy(im->order, lent.order.mem.at, im->order_len * 8);
 }
 
 /* Makes the call, checks it, and leaves in the image what it left. `kind`: 0 good store, 1 damaged, 2 made. */
@@ -251,21 +244,20 @@ static uint32_t perform(int kind, image *im, const call *c, const table *t) {
     calls++;
     uint32_t said = measured_call(im, c, t);
     int refused = said >= 5 && said < MODE;
-    counts[kind][c->op][said >= MODE ? 15 : said < 15 ? said : 14]++;
-    if (want >= 0 ? said != (uint32_t)want : said == 13 || said == 14) {
+    if (said > TREE_EDITOR_STORE_DAMAGED && said != TREE_EDITOR_BAD_ARGUMENT && (c->op != GET || said < MODE)) differs("gives no number");
+    counts[kind][c->op][said >= MODE ? COUNT_FOUND : said == TREE_EDITOR_BAD_ARGUMENT ? COUNT_BAD : said]++;
+    if (want >= 0 ? said != (uint32_t)want : said == 13 || said == TREE_EDITOR_BAD_ARGUMENT) {
         char text[80];
         sprintf(text, "gives %u where the check says %d", said, want);
         differs(text);
     }
-    if (said > 14 && !(c->op == GET || c->op == GET_AT)) differs("gives no number");
-    if (said >= 15 && said < MODE) differs("gives no number and no mode");
     if (!margins()) differs("wrote beside a lent buffer");
     if (!inputs_same(c)) differs("changed what it may only read");
     if (!outputs_same(c, said)) differs("changed more of its outputs than it may");
     if ((refused || reads(c->op)) && !store_same()) differs("changed a lent byte though it refused or only reads");
-    if (!next_goes(c, said, (const tree_editor *)(const void *)lent.ed.at)) differs("gives a second number that cannot be");
+    if (!next_goes(c, said, (const tree_editor *)(const void *)lent.ed.mem.at)) differs("gives a second number that cannot be");
     if (!behind_same()) differs("changed bytes behind an array's front");
-    if (c->op < BEGIN && !lend_same(&lent.order, 0)) differs("changed the order, which it may only read");
+    if (c->op < BEGIN && !same(&lent.order, 0)) differs("changed the order, which it may only read");
     if (!refused && !reads(c->op)) {
         take_back(im);
         check_lent after = as_lent(im);
@@ -299,8 +291,7 @@ static bytes cached_path(const image *im, int of_entry) {
 }
 
 static op random_op(int open) {
-    static const uint8_t weights[2][OPS] = {{1, 3, 30, 10, 8, 4, 6, 3, 9, 10, 5, 5, 5, 1, 1, 1, 1, 2},
-                                            {1, 1, 2, 1, 1, 1, 1, 1, 1, 2, 1, 1, 1, 15, 20, 25, 3, 2}};
+    static const uint8_t weights[2][OPS] = {{1, 3, 40, 12, 9, 9, 15, 5, 5, 1, 1, 1, 1, 2}, {1, 1, 3, 2, 2, 1, 3, 1, 1, 15, 20, 25, 3, 2}};
     size_t sum = 0;
     for (int i = 0; i < OPS; i++) sum += weights[open][i];
     size_t at = make_below(sum);
@@ -323,12 +314,14 @@ static call random_call(const image *im, int good, style how) {
     c.raw = c.op <= SET_ROOT ? make_raw(how) : (bytes){malloc(1), 0};
     c.path = good && make_once(3) ? cached_path(im, 1) : make_path(how);
     c.prefix = good && !make_once(6) ? cached_path(im, 0) : make_path(SMALL);
+    if (has_prefix(c.op) && !make_once(3)) c.prefix.len = 0;
+    c.from_root = c.prefix.len == 0 && !make_once(4);
     make_id(c.id);
     if ((c.op == REQUEST || c.op == ONWARD) && make_once(2)) c.out_len = make_once(2) ? make_below(40) : make_below(TREE_EDITOR_OUTPUT);
     return c;
 }
 
-/* Arguments that only the C functions can be given: 14, or 11 of a lookup. */
+/* Arguments that only the C functions can be given. */
 static void spoil(call *c) {
     switch (make_below(6)) {
     case 0: c->mode = make_once(2) ? (uint32_t)make_word() : make_mode() ^ 1u << make_below(32); break;
@@ -432,27 +425,25 @@ static void put_number(const char *form, unsigned n) {
 
 /* The call in the protocol's form. */
 static void put_call(const call *c) {
-    static const char *const words[OPS] = {"new ",    "setroot ", "upsert . ", "upsert ", "remove . ", "remove ",
-                                           "leaf . ", "leaf ",    "cursor ",   "get . ",  "get ",      "begin .",
-                                           "begin ",  "read ",    "answer ",   "answer ", "fail",      ""};
+    static const char *const words[OPS] = {"new ",    "setroot ", "upsert ", "remove ", "leaf ",   "cursor ", "get ",
+                                           "begin .", "begin ",   "read ",   "answer ", "answer ", "fail",    ""};
     used_of_line = 0;
     put(words[c->op]);
-    if (c->op == UPSERT_AT || c->op == REMOVE_AT || c->op == REMOVE_LEAF_AT || c->op == GET_AT || c->op == BEGIN_AT)
-        put_hex(c->prefix.at, c->prefix.len);
-    if (c->op == UPSERT_AT || c->op == REMOVE_AT || c->op == REMOVE_LEAF_AT || c->op == GET_AT) put(" ");
-    if (c->op >= UPSERT && c->op <= GET_AT) put_hex(c->path.at, c->path.len);
-    if (c->op == UPSERT || c->op == UPSERT_AT) put_number(" %o ", c->mode);
-    if (c->op == UPSERT || c->op == UPSERT_AT || c->op == ANSWER || c->op == ONWARD) put_hex(c->id, 20);
+    if (has_prefix(c->op) && c->from_root) put(".");
+    else if (has_prefix(c->op) || c->op == BEGIN_AT) put_hex(c->prefix.at, c->prefix.len);
+    if (has_prefix(c->op)) put(" ");
+    if (has_prefix(c->op) || c->op == CURSOR_AT) put_hex(c->path.at, c->path.len);
+    if (c->op == UPSERT) put_number(" %o ", c->mode);
+    if (c->op == UPSERT || c->op == ANSWER || c->op == ONWARD) put_hex(c->id, TREE_EDITOR_ID);
     if (c->op <= SET_ROOT) put_hex(c->raw.at, c->raw.len);
     if (c->op == REQUEST) put_number("%u", (unsigned)c->out_len);
     fprintf(to_calls, "%s\n", line);
 }
 
 static void put_request(void) {
-    const size_t *lens = (const size_t *)(const void *)lent.lens.at;
-    put_hex(lent.at.at, lens[1]);
+    put_hex(lent.at.mem.at, lengths()[1]);
     put(" ");
-    put_hex(lent.out.at, lens[0]);
+    put_hex(lent.out.mem.at, lengths()[0]);
 }
 
 /* Whether the caller's view of an answered request is the one read: the call `request` with all the room it may need. */
@@ -465,29 +456,29 @@ static void read_request(image *im, const table *t) {
 
 /* What the call that answered read, or, where its output was too short, what `request` reads with the length that it said is needed. */
 static void read_onward(image *im, const table *t) {
-    size_t needed = *(const size_t *)(const void *)lent.lens.at;
-    if (lent.next.at[0] == 0) {
+    uint64_t needed = lengths()[0];
+    if (second() == 0) {
         put(" request ");
         put_request();
         return;
     }
     read_request(im, t);
-    if (*(const size_t *)(const void *)lent.lens.at != needed) differs("has another length than an answer said is needed");
+    if (lengths()[0] != needed) differs("has another length than an answer said is needed");
 }
 
 static void say_answer(image *im, const call *c, uint32_t said, const table *t) {
     put(" => ");
-    if (c->op == GET || c->op == GET_AT) {
+    if (c->op == GET) {
         if (said == 0)
             put("none");
         else if (said < MODE)
             put_number("%u", said);
         else
-            put_number("0 %o ", said), put_hex(lent.id.at, 20);
+            put_number("0 %o ", said), put_hex(lent.id.mem.at, TREE_EDITOR_ID);
     } else {
         put_number("%u", said);
         if (c->op == REQUEST && said == 0) put(" "), put_request();
-        if (c->op == REQUEST && said == 11) put_number(" %u", (unsigned)*(const size_t *)(const void *)lent.lens.at);
+        if (c->op == REQUEST && said == 11) put_number(" %u", (unsigned)lengths()[0]);
         if ((c->op == BEGIN || c->op == BEGIN_AT || c->op == ANSWER || c->op == ONWARD) && said == 0) {
             if (im->ed.open)
                 c->op == ONWARD ? read_onward(im, t) : read_request(im, t);
@@ -541,7 +532,7 @@ static void show(const image *good, const table *t) {
     qsort(slots, n, sizeof *slots, by_path);
     fprintf(to_calls, "show\n");
     fprintf(to_answers, "show\n %s trees=%zu entries=%zu names=%zu paths=%zu\n", good->ed.open ? "if-fail" : "state", n,
-            im.ed.entries, im.ed.names, im.ed.paths);
+            (size_t)im.ed.entries, (size_t)im.ed.names, (size_t)im.ed.paths);
     for (size_t k = 0; k < n; k++) show_tree(&slots[k]);
 }
 
@@ -607,14 +598,6 @@ static void lend_damaged(const image *good, const table *t, style how, int made)
     drop(&c);
 }
 
-/* A lookup with less room for the id: 11 exactly where the whole one finds an entry. */
-static void short_lookup(image *im, const call *c, uint32_t said, const table *t) {
-    call less = *c;
-    less.id_len = make_below(20);
-    uint32_t again = perform(0, im, &less, t);
-    if (again != (said >= MODE ? 11 : said)) differs("with less room for the id gives another number");
-}
-
 /* A trace: calls on one store from junk or `new` on, each followed by one on a damaged copy. In some, many cursors are opened
  * first, to come near the limits. */
 static void trace(size_t number, style how, size_t length, const image *made, size_t made_count) {
@@ -645,7 +628,7 @@ static void trace(size_t number, style how, size_t length, const image *made, si
             uint32_t said = perform(0, &im, &c, &t);
             if (c.op == NEW && said == 0) made_once = 1;
             say_answer(&im, &c, said, &t);
-            if (c.op == GET || c.op == GET_AT) short_lookup(&im, &c, said, &t);
+            if (c.op == GET) c.id_len = make_below(TREE_EDITOR_ID), perform(0, &im, &c, &t); /* less room for the id */
         }
         drop(&c);
         if (made_once && make_once(12)) show(&im, &t);
@@ -689,28 +672,6 @@ static image *read_stores(const char *name, size_t *count) {
     return all;
 }
 
-static void make_areas(void) {
-    static const size_t most[] = {sizeof(tree_editor),
-                                  8 * (TREE_EDITOR_SLOTS + EXTRA),
-                                  TREE_EDITOR_PATHS + EXTRA,
-                                  8 * (TREE_EDITOR_SLOTS + EXTRA),
-                                  TREE_EDITOR_TREES + EXTRA,
-                                  8 * (TREE_EDITOR_SLOTS + EXTRA),
-                                  400,
-                                  80,
-                                  900000,
-                                  4096,
-                                  4096,
-                                  64,
-                                  300000,
-                                  TREE_EDITOR_OUTPUT,
-                                  TREE_EDITOR_PATH + EXTRA,
-                                  64,
-                                  16};
-    lend_area *all = (lend_area *)&lent;
-    for (size_t i = 0; i < sizeof most / sizeof *most; i++) lend_make(&all[i], most[i]);
-}
-
 static FILE *opened(const char *folder, const char *name, const char *how) {
     char path[4096];
     snprintf(path, sizeof path, "%s/%s", folder, name);
@@ -739,7 +700,6 @@ int main(int argc, char **argv) {
     signal(SIGSEGV, on_fault);
     signal(SIGBUS, on_fault);
     signal(SIGILL, on_fault);
-    make_areas();
     make_seed(seed);
     for (size_t n = 1; calls < count; n++)
         trace(n, make_once(2) ? (style)make_below(STYLES) : SMALL, 10 + make_below(60), made, made_count);
@@ -748,13 +708,11 @@ int main(int argc, char **argv) {
     static const char *const kinds[] = {"good", "damaged", "made"};
     for (int k = 0; k < 3; k++)
         for (int o = 0; o < OPS; o++)
-            for (int n = 0; n < 16; n++)
-                if (counts[k][o][n])
-                    fprintf(to, "%s %s %s%.0d %llu\n", kinds[k], names[o],
-                            n == 15  ? "found"
-                            : n == 0 ? "0"
-                                     : "",
-                            n == 15 ? 0 : n, (unsigned long long)counts[k][o][n]);
+            for (int n = 0; n < COUNTS; n++)
+                if (counts[k][o][n]) {
+                    fprintf(to, n == COUNT_FOUND ? "%s %s found" : "%s %s %d", kinds[k], names[o], n == COUNT_BAD ? TREE_EDITOR_BAD_ARGUMENT : n);
+                    fprintf(to, " %llu\n", (unsigned long long)counts[k][o][n]);
+                }
     for (int o = 0; o < OPS && MEASURE_STACK; o++) fprintf(to, "stack %s bytes %zu\n", names[o], deepest[o]);
     return fclose(to) || fclose(to_calls) || fclose(to_answers) || fclose(held) || fclose(held_calls) || fclose(held_answers) ? 2
                                                                                                                               : 0;

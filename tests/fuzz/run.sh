@@ -10,7 +10,7 @@ library=$(tools/library.sh)
 work=target/fuzz
 mkdir -p $work
 # shellcheck disable=SC2086
-cc -std=c11 -Wall -Wextra -Werror -O2 -g -Iinclude -o $work/fuzz tests/fuzz/fuzz.c tests/fuzz/check.c tests/fuzz/lend.c tests/fuzz/make.c tests/fuzz/stack.c ${FUZZ_FLAGS:-} "$library"
+cc -std=c11 -Wall -Wextra -Werror -O2 -g -Iinclude -Itests/driver -o $work/fuzz tests/fuzz/fuzz.c tests/fuzz/check.c tests/fuzz/make.c tests/fuzz/stack.c ${FUZZ_FLAGS:-} "$library"
 if command -v cargo > /dev/null; then
   (cd tests/oracle && cargo build --offline --release -q -j1)
 else
@@ -46,7 +46,7 @@ awk '$1 == "stack" { next }
   END {
     for (k in kind) {
       line = ""
-      for (i = 0; i <= 15; i++) { key = i == 15 ? "found" : i; if (by[k, key]) line = line "  " key ": " by[k, key] }
+      for (i = 0; i <= 15; i++) { key = i == 15 ? "found" : i == 14 ? 255 : i; if (by[k, key]) line = line "  " key ": " by[k, key] }
       printf "%-8s %9d calls  %s\n", k, kind[k], line
     }
     printf "%d calls: no touch beside a lent buffer, no byte changed by a refusal, numbers as the check and the original say\n", all

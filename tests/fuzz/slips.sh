@@ -20,7 +20,7 @@ try() {
   fi
 }
 mkdir -p target/fuzz
-functions=(upsert upsert upsert upsert get holds request fail upsert answer_and_request)
+functions=(upsert upsert upsert upsert get holds request fail upsert answer_and_request upsert get)
 for k in "${!functions[@]}"; do
   try "library $((k + 1)), ${functions[$k]}" -DLIBRARY_SLIP=$((k + 1)) tests/fuzz/slips.c -Wl,--wrap=tree_editor_"${functions[$k]}"
 done

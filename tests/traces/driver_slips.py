@@ -50,7 +50,7 @@ SLIPS = [
     ("sha1-other-turn", "c = sha1_rotate(b, 30)", "c = sha1_rotate(b, 29)"),
     # what is given back
     ("empty-for-not-found", "    } else if (got == TREE_EDITOR_DONE) {", "    } else if (got == TREE_EDITOR_DONE || got == TREE_EDITOR_CURSOR_STALE) {"),
-    ("invented-length", "number, length_given(0));", "number, (size_t)TREE_EDITOR_OUTPUT);"),
+    ("invented-length", "number, (size_t)length_given(0));", "number, (size_t)TREE_EDITOR_OUTPUT);"),
     ("damaged-as-not-found", "    printf(\"%s => %u\\n\", line, number);", "    printf(\"%s => %u\\n\", line, number == 3 ? 2 : number);"),
     ("slot-order", "    qsort(found, (size_t)n, sizeof *found, by_path);\n", ""),
     ("failure-not-shown", "    } else if (checked(FAIL, false) == TREE_EDITOR_DONE) {\n        dump(\"if-fail\"",
@@ -73,13 +73,14 @@ SLIPS = [
     ("request-before-answer", "    case ONWARD: return tree_editor_answer_and_request(&ed, STORE, LENT(id), READ_TO, LENT(out_next));",
      "    case ONWARD: out_next.at[0] = tree_editor_request(ed, STORE, READ_TO); return tree_editor_answer(&ed, STORE, LENT(id));", "--next"),
     ("answer-undone-when-short", AFTER, AFTER + "    if (op == ONWARD && number == 0 && out_next.at[0] == 11)\n        restore();\n", "--next"),
-    ("invented-next-length", AFTER, AFTER + "    if (op == ONWARD && out_next.at[0] == 11)\n        ++*(size_t *)(void *)out_lens.at;\n", "--next"),
-    ("second-number-kept-back", AFTER, AFTER + "    if (op == ONWARD)\n        out_next.at[0] = MARK;\n", "--next"),
+    ("invented-next-length", AFTER, AFTER + "    if (op == ONWARD && out_next.at[0] == 11)\n        ++*(length *)(void *)out_lens.at;\n", "--next"),
+    ("second-number-kept-back", AFTER, AFTER + "    if (op == ONWARD)\n        out_next.at[0] = LENT_MARK;\n", "--next"),
     ("place-for-number-not-asked", "        lend(&out_next, 0);", "        lend(&out_next, 1);", "--next", "--probe"),
     # probes
     ("short-array-taken", "        count[k] = need[k] - 1;", "        count[k] = need[k] - (k != ORDER);", "--probe"),
     ("count-not-judged", "        ed.names++, ed_before.names++;\n", "        ed.names += 0, ed_before.names += 0;\n", "--probe"),
     ("mode-not-judged", "        mode = right + 0200000;", "        mode = right;", "--probe"),
+    ("id-output-not-judged", "        lend(&out_id, TREE_EDITOR_ID - 1);", "        lend(&out_id, TREE_EDITOR_ID);", "--probe"),
     ("byte-behind-room", AFTER, AFTER + "    array[PLENS].at[8 * TREE_EDITOR_SLOTS + (roomy ? 0 : -1)] ^= roomy && number == 0 && op == LEAF;\n", "--roomy"),
 ]
 
