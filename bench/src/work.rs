@@ -87,7 +87,7 @@ fn editor(root: &[u8], objects: &'static Objects) -> Ours {
     Ours { ed: Editor::new(Box::default(), root, table).unwrap(), out: Box::default(), raw: vec![0; 45056], path: [0; 1024], raws: Vec::with_capacity(200_000) }
 }
 fn original(root: &[u8], objects: &'static Objects) -> Theirs {
-    let entries = gix_object::tree::decode(root, gix_object::tree::Strict::Document01).unwrap();
+    let entries = gix_object::tree::decode(root, gix_object::tree::Strict::Rules).unwrap();
     let tree: Tree = gix_object::TreeRef { entries }.into();
     Theirs { ed: Original::new(tree, objects, gix_hash::Kind::Sha1), raws: Vec::with_capacity(200_000) }
 }

@@ -4,9 +4,9 @@
 set -euo pipefail
 cd "$(dirname "$0")/../.."
 small=target/bin/small
-python3 tools/compare_small.py --replay tests/data/small-answers.txt -- $small
+python3 tests/small/compare_small.py --replay tests/data/small-answers.txt -- $small
 for n in 1 2 3 7 511 512; do
-  python3 tools/compare_small.py --replay tests/data/small-answers.txt --step 10 --transfer $n -- $small
+  python3 tests/small/compare_small.py --replay tests/data/small-answers.txt --step 10 --transfer $n -- $small
 done
 if command -v git > /dev/null; then
   repository=$(mktemp -d)

@@ -1,4 +1,4 @@
-// Whether stores hold an editor: standard input has stores one after the other, in the form that tools/stores.py tells, and a
+// Whether stores hold an editor: standard input has stores one after the other, in the form that tests/stores/stores.py tells, and a
 // line of standard output says of each 1 or 0.
 mod input;
 mod words;
