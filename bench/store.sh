@@ -24,11 +24,11 @@ bound() {
 measure() {
   local check upsert insert=insert
   [ "$1" = full ] || insert=insert-$1
-  target/bench/store $insert and-check
+  target/bench/store "$insert" and-check
   check=$(counted "$1" tree_editor_holds)
   bound "check, $2" "$check" "$3"
-  check=$(counted $insert tree_editor_holds)
-  upsert=$(counted $insert tree_editor_upsert)
+  check=$(counted "$insert" tree_editor_holds)
+  upsert=$(counted "$insert" tree_editor_upsert)
   bound "upsert at the front of the first tree" "$upsert" 400000
   bound "of it besides the check" $((upsert - check)) 150000
 }
