@@ -288,7 +288,7 @@ fn w_request(s: &mut Ours, path: &mut [u8; 1024], raw: &mut [u8]) {
 #[inline(never)]
 #[unsafe(no_mangle)]
 fn w_answer_and_request(s: &mut Ours, k: usize, path: &mut [u8; 1024], raw: &mut [u8]) {
-    black_box(s.ed.answer_and_request(id(k), raw, path).unwrap());
+    let _ = black_box(s.ed.answer_and_request(id(k), raw, path).unwrap());
 }
 
 /// Where the instructions of single calls and of the write go: its calls one by one, and the check once for each of them.

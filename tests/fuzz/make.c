@@ -119,8 +119,11 @@ static size_t put_entries(entry *e, size_t n, style how) {
     }
     qsort(e, n, sizeof *e, by_name);
     size_t kept = 0;
-    for (size_t i = 0; i < n; i++)
-        if (i == 0 || by_name(&e[kept - 1], &e[i])) e[kept++] = e[i];
+    for (size_t i = 0; i < n; i++) {
+        if (i > 0 && !by_name(&e[kept - 1], &e[i])) continue;
+        if (kept < i) e[kept] = e[i];
+        kept++;
+    }
     qsort(e, kept, sizeof *e, by_key);
     return kept;
 }

@@ -106,6 +106,7 @@ fn small_surprises() {
     // a path of no bytes names nothing, and `a/` leaves the tree `a`
     ed.upsert("", EntryKind::Blob, FILE).unwrap().remove("").unwrap();
     assert_eq!(ed.get(""), Ok(None));
+    ed.cursor_at("").unwrap().upsert("at-root", EntryKind::Blob, FILE).unwrap().remove("at-root").unwrap();
     assert_eq!(ed.upsert("a/", EntryKind::Blob, FILE).map(|_| ()), Err(Error::EmptyComponent));
     assert_eq!(ed.get("a").unwrap().unwrap().kind, EntryKind::Tree);
     // null ids vanish at the write, and so do trees without entries
