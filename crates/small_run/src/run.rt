@@ -2,12 +2,12 @@
 ghost use mathlib.Core.Path.{_≡_};
 ghost use mathlib.Core.List.{List, _++_};
 ghost use Prim.Native.Nat.{ℕ, _≤_};
-ghost use lib.ListN.{length};
+ghost use lib.ListN.{length, replicate};
 ghost use Rattle.editor.specs.Lent.{lent, Good, viewed};
 ghost use Rattle.small_records.specs.Records.{EditRecord, good as goodInput, reading};
 ghost use Rattle.lines.specs.declared.text.Put.the-variants.{At};
 ghost use Rattle.small_run.specs.Lesson.{recordLines, afterRecords, saved, output};
-ghost use Rattle.small_run.specs.Puts.{Puts};
+ghost use Rattle.small_run.specs.Puts.{Puts, Gives};
 use lines::text::Put;
 use small_records::form::Form;
 use store_slots::Record;
@@ -80,13 +80,38 @@ fn run_good_input(input: &[u8], out: &mut [u8]) -> Put
     )
 }
 
-// Writes what there is to be written for an input to the front of the output, if it fits; 303,104 bytes always suffice.
-pub fn run(input: &[u8], out: &mut [u8]) -> Put
-    ensures output { λ r. ⌜ Puts (now (out .entry)) 0 (output (now (input .entry))) r (now (out .exit)) ⌝ }
-    ensures whole { λ r. ⌜ (303104 ≤ length (now (out .entry)) → (n : ℕ) × (r ≡ At n)) ⌝ }
+// Writes what there is to be written for an input to the front of the output, if it fits.
+fn run_input(input: &[u8], out: &mut [u8]) -> Put
+    ensures { λ r. ⌜ Puts (now (out .entry)) 0 (output (now (input .entry))) r (now (out .exit)) ⌝ }
 {
     match small_records::form::first_bad(input, 20) {
         Form::Bad(n) => lines::text::put_number_line(out, 0, b"bad", n as u64),
         Form::Good(_) => run_good_input(input, out),
+    }
+}
+
+// Makes each byte 0.
+fn clear(out: &mut [u8])
+    ensures { λ _. ⌜ now (out .exit) ≡ replicate (length (now (out .entry))) 0 ⌝ }
+{
+    let mut i = 0;
+    while i < out.len() {
+        out[i] = 0;
+        i += 1;
+    }
+}
+
+// Writes what there is to be written for an input to the front of the output, if it fits; 303,104 bytes always suffice. Where it does not fit, the output
+// is cleared, so that no part of a text is taken for a whole one.
+pub fn run(input: &[u8], out: &mut [u8]) -> Put
+    ensures output { λ r. ⌜ Gives (now (out .entry)) (output (now (input .entry))) r (now (out .exit)) ⌝ }
+    ensures whole { λ r. ⌜ (303104 ≤ length (now (out .entry)) → (n : ℕ) × (r ≡ At n)) ⌝ }
+{
+    match run_input(input, out) {
+        Put::At(n) => Put::At(n),
+        Put::Refused => {
+            clear(out);
+            Put::Refused
+        }
     }
 }
