@@ -6,17 +6,16 @@ use mathlib.Core.List.{[], _++_, append-nil, append-assoc}
 use mathlib.Core.Option.{none, some}
 use native.Mathlib.Omega.{arith}
 use lib.Dec.{leb}
-use lib.ListN.{length, take, length-append}
+use lib.ListN.{length, take, drop, length-append, take-append-drop}
 use borrow.Author.Tests.{leb-true, leb-false}
 use Rattle.model.specs.Bytes.{Bytes}
 use Rattle.model.proofs.Basics.{none-some, some-none, some-inj}
 use Rattle.names.specs.Splice.{splice}
-use Rattle.names.proofs.WriteLaws.{length-splice}
-use Rattle.names.proofs.FrontLaws.{splice-after}
-use Rattle.small_records.specs.Answers.{outcome}
-use Rattle.small_records.specs.Texts.{Written, written}
-use Rattle.small_records.specs.declared.text.Put.{Put}
-use Rattle.small_records.specs.declared.text.Put.the-variants.{At, Refused}
+use Rattle.names.proofs.WriteLaws.{length-splice, splice-splice}
+use Rattle.lines.specs.Answers.{outcome}
+use Rattle.lines.specs.Texts.{Written, written}
+use Rattle.lines.specs.declared.text.Put.{Put}
+use Rattle.lines.specs.declared.text.Put.the-variants.{At, Refused}
 use Rattle.small_run.specs.Puts.{PutAt, Puts}
 
 -- the bytes after a write
@@ -24,14 +23,21 @@ pub out-of : (p : Put) (d : Bytes) → (outcome p d) .out ≡ d
 out-of (At n) d = refl
 out-of Refused d = refl
 
+-- a text of no bytes changes none
+splice-nothing : (d : Bytes) (at : ℕ) → d ≡ splice d at []
+unfolding splice
+splice-nothing d at =
+    let q : at + 0 ≡ at = omega arith in
+    sym (ap (λ (k : ℕ). (take at d ++ []) ++ drop k d) q ∙ ap (λ (l : Bytes). l ++ drop at d) (append-nil (take at d)) ∙ take-append-drop at d)
+
 module _ (d : Bytes) (at : ℕ) (h : at ≤ length d) where
   pub put-nothing : PutAt d at [] at d
-  put-nothing = record { next = omega arith; within = h; long = refl; front = sym (append-nil (take at d)) }
+  put-nothing = record { next = omega arith; within = h; long = refl; done = splice-nothing d at }
 
   put-there : (s : Bytes) {n : ℕ} {e : Bytes} → at + length s ≤ length d → n ≡ at + length s → e ≡ splice d at s → PutAt d at s n e
   put-there s {n} {e} room a b =
       let l = ap length b ∙ length-splice d at s room in
-      record { next = a; within = omega (arith, l); long = l; front = rw (a, b) (splice-after d at s h) }
+      record { next = a; within = omega (arith, l); long = l; done = b }
 
   pub puts : (s : Bytes) (r : Put) (e : Bytes) → outcome r e ≡ written d at s → Puts d at s r e
   unfolding written
@@ -60,7 +66,7 @@ module _ {d : Bytes} {at : ℕ} {s : Bytes} where
         next = omega (arith, p .next, q .next, length-append s t);
         within = q .within;
         long = q .long ∙ p .long;
-        front = q .front ∙ ap (λ (l : Bytes). l ++ t) (p .front) ∙ append-assoc (take at d) s t;
+        done = q .done ∙ rw (p .next, p .done) (splice-splice d at s t (omega (arith, p .next, p .long, q .next, q .within, q .long)));
       }
   puts-then p t Refused f q = omega (arith, p .next, p .long, q, length-append s t)
 

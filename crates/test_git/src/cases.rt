@@ -2,24 +2,12 @@
 ghost use Prim.Native.Nat.{_≤_};
 ghost use lib.ListN.{length};
 use libc::STDOUT_FILENO;
+use lines::text::Put;
 use names::order::Order;
 use names::tree::Checked;
 
 pub fn print(text: &[u8]) {
     io::write_all(STDOUT_FILENO, text);
-}
-
-// Whether s is a kind's letter, f or t, and the hex of a name of at most 512 bytes.
-fn is_name(s: &[u8]) -> bool {
-    if s.len() == 0 {
-        return false;
-    }
-    if s[0] != b'f' {
-        if s[0] != b't' {
-            return false;
-        }
-    }
-    crate::hex::is_hex(names::part::after(s, 1), 512)
 }
 
 fn starts_with(s: &[u8], letter: u8) -> bool {
@@ -29,18 +17,12 @@ fn starts_with(s: &[u8], letter: u8) -> bool {
     s[0] == letter
 }
 
-// The order of two names, each a kind's letter and hex.
-fn order_of(first: &[u8], second: &[u8]) -> Order {
-    let mut a = [0u8; 512];
-    let n = crate::hex::decode(names::part::after(first, 1), &mut a);
-    let mut b = [0u8; 512];
-    let m = crate::hex::decode(names::part::after(second, 1), &mut b);
-    names::order::name_order(
-        &a[..n],
-        starts_with(first, b't'),
-        &b[..m],
-        starts_with(second, b't'),
-    )
+// Whether s begins with a kind's letter, f or t.
+fn has_kind(s: &[u8]) -> bool {
+    if starts_with(s, b'f') {
+        return true;
+    }
+    starts_with(s, b't')
 }
 
 fn print_order(order: Order) {
@@ -80,24 +62,46 @@ fn print_checked(raw: &[u8]) {
 
 // The case of a raw tree in hex; false, with nothing printed, where the line breaks the form.
 fn tree_case(digits: &[u8]) -> bool {
-    if crate::hex::is_hex(digits, 32768) {
-        let mut raw = [0u8; 32768];
-        let n = crate::hex::decode(digits, &mut raw);
-        print_checked(&raw[..n]);
-        return true;
+    let mut raw = [0u8; 32768];
+    match lines::hex::decode(&mut raw, 0, digits) {
+        Put::At(n) => {
+            print_checked(names::part::front(&raw, n));
+            true
+        }
+        Put::Refused => false,
     }
-    false
 }
 
-// The case of two names; false, with nothing printed, where the line breaks the form.
-fn order_case(first: &[u8], second: &[u8]) -> bool {
-    if is_name(first) {
-        if is_name(second) {
-            print_order(order_of(first, second));
-            return true;
+// The case of two names in hex, the first of them read; false, with nothing printed, where the second is no hex of at most 512 bytes.
+fn second_case(a: &[u8], a_tree: bool, digits: &[u8], b_tree: bool) -> bool {
+    let mut b = [0u8; 512];
+    match lines::hex::decode(&mut b, 0, digits) {
+        Put::At(n) => {
+            print_order(names::order::name_order(a, a_tree, names::part::front(&b, n), b_tree));
+            true
         }
+        Put::Refused => false,
     }
-    false
+}
+
+// The case of two names, each a kind's letter and the hex of at most 512 bytes; false, with nothing printed, where the line breaks the form.
+fn order_case(first: &[u8], second: &[u8]) -> bool {
+    if !has_kind(first) {
+        return false;
+    }
+    if !has_kind(second) {
+        return false;
+    }
+    let mut a = [0u8; 512];
+    match lines::hex::decode(&mut a, 0, names::part::after(first, 1)) {
+        Put::At(n) => second_case(
+            names::part::front(&a, n),
+            starts_with(first, b't'),
+            names::part::after(second, 1),
+            starts_with(second, b't'),
+        ),
+        Put::Refused => false,
+    }
 }
 
 // The case on a line; false, with nothing printed, where the line breaks the form.

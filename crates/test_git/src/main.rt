@@ -2,7 +2,6 @@
 // output says what crate names makes of it. docs/VECTORS.md has the form of both.
 mod again;
 mod cases;
-mod hex;
 mod input;
 
 fn main() {
