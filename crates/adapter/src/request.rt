@@ -21,14 +21,14 @@ pub extern "C" fn tree_editor_request(
         (slices (now (out .entry)) (now (path .entry)) (now (lens .entry))) r (slices (now (out .exit)) (now (path .exit)) (now (lens .exit))) ⌝ }
 {
     if lens.len() < 2 {
-        return 14;
+        return 255;
     }
     if path.len() < 1024 {
-        return 14;
+        return 255;
     }
     let a = editor_write::request::request(ed, plens, paths, tlens, trees, order, out);
     let code = a.code;
     let len = a.len;
     let at = a.at;
-    adapter_numbers::told::told(code, len, at, path, lens)
+    adapter_numbers::told::tell_request(code, len, at, path, lens)
 }

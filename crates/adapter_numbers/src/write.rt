@@ -52,7 +52,7 @@ pub fn begin_at(
     }
 }
 
-// Answers the open request with the id of the tree that was requested: 14 where it has not 20 bytes.
+// Answers the open request with the id of the tree that was requested: 255 where it has not 20 bytes.
 pub fn answer(
     ed: Record,
     plens: &mut [u64],
@@ -67,7 +67,7 @@ pub fn answer(
         (lent (r .ed) (now (plens .exit)) (now (paths .exit)) (now (tlens .exit)) (now (trees .exit)) (now (order .exit))) ⌝ }
 {
     if id.len() != 20 {
-        return Numbered { code: 14, ed };
+        return Numbered { code: 255, ed };
     }
     let a = editor_write::answer::answer(
         ed,

@@ -1,6 +1,6 @@
 // Lookups in a lent store.
 ghost use mathlib.Core.Path.{_≡_};
-ghost use mathlib.Core.List.{List, []};
+ghost use mathlib.Core.List.{List};
 ghost use Prim.Native.Nat.{ℕ};
 ghost use Rattle.model.specs.Paths.{base};
 ghost use Rattle.model.specs.Lookup as model;
@@ -42,7 +42,7 @@ fn look_held(
 }
 
 // The entry at a path below a prefix.
-pub fn looked(
+pub fn get(
     ed: Record,
     plens: &[u64],
     paths: &[u8],
@@ -66,19 +66,4 @@ pub fn looked(
         prefix,
         path,
     )
-}
-
-// The entry at a path.
-pub fn get(
-    ed: Record,
-    plens: &[u64],
-    paths: &[u8],
-    tlens: &[u64],
-    trees: &[u8],
-    order: &[u64],
-    path: &[u8],
-) -> Looked
-    ensures { λ r. ⌜ Looks [] (now (path .entry)) (lent ed (now (plens .entry)) (now (paths .entry)) (now (tlens .entry)) (now (trees .entry)) (now (order .entry))) (lookedAs (base (now (path .entry))) r) ⌝ }
-{
-    looked(ed, plens, paths, tlens, trees, order, b"", path)
 }

@@ -15,14 +15,9 @@ ghost use Rattle.store_check.specs.Decides.{Decides};
 ghost use Rattle.editor.specs.Lent.{lent, Long, Does};
 ghost use Rattle.editor.specs.Roots.{Roots, Makes};
 use editor_terms::code::Code;
+use editor_walk::apply::Answer;
 use names::tree::Checked;
 use store_slots::Record;
-
-// What a call that may change the store answers: its number, and the record then.
-pub struct Answer {
-    pub code: Code,
-    pub ed: Record,
-}
 
 // Caches a well-formed raw tree with so many entries and name bytes as the root, and nothing else, in slices as long as a store.
 fn root_only(

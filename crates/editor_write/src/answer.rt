@@ -10,9 +10,9 @@ ghost use Rattle.editor_terms.specs.Answers.{codeNumber};
 ghost use Rattle.editor_terms.specs.Ids.{idBytes};
 ghost use Rattle.editor.specs.Lent.{lent, Good, Does};
 ghost use Rattle.editor_write.specs.Steps.{HoldsExactly, Made};
-use editor::root::Answer;
 use editor_terms::code::Code;
 use editor_terms::id::Id;
+use editor_walk::apply::Answer;
 use store_slots::Record;
 
 // The start tree was requested: the write is over. From the root it alone stays cached; from a cursor it goes back to the others.

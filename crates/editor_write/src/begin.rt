@@ -7,11 +7,9 @@ ghost use Rattle.store_slots.specs.View.{startOf, pathOf};
 ghost use Rattle.store_taken.specs.Taken.{Cached};
 ghost use Rattle.editor_terms.specs.Answers.{codeNumber};
 ghost use Rattle.editor.specs.Lent.{lent, Does};
-ghost use Rattle.editor.specs.Looks.{prefixOf};
 ghost use Rattle.editor_write.specs.Steps.{HoldsExactly, Made, Answers, Starts};
-use editor::cursor::Cursor;
-use editor::root::Answer;
 use editor_terms::code::Code;
+use editor_walk::apply::Answer;
 use store_runs::runs::Found;
 use store_slots::Record;
 
@@ -135,23 +133,4 @@ pub fn begin_at(
         (lent (r .ed) (now (plens .exit)) (now (paths .exit)) (now (tlens .exit)) (now (trees .exit)) (now (order .exit))) ⌝ }
 {
     begin_from(ed, plens, paths, tlens, trees, order, prefix, 2)
-}
-
-// Begins a write at the tree of a cursor.
-pub fn begin_cursor(
-    ed: Record,
-    plens: &mut [u64],
-    paths: &mut [u8],
-    tlens: &mut [u64],
-    trees: &mut [u8],
-    order: &mut [u64],
-    cursor: Cursor,
-) -> Answer
-    ensures { λ r. ⌜ Does (begun sha1 (fromCursor (prefixOf cursor))) (lent ed (now (plens .entry)) (now (paths .entry)) (now (tlens .entry)) (now (trees .entry)) (now (order .entry))) (codeNumber (r .code))
-        (lent (r .ed) (now (plens .exit)) (now (paths .exit)) (now (tlens .exit)) (now (trees .exit)) (now (order .exit))) ⌝ }
-{
-    let c = editor::cursor::sound(cursor);
-    let p = c.prefix;
-    let n = c.len;
-    begin_at(ed, plens, paths, tlens, trees, order, &p[..n])
 }

@@ -6,8 +6,8 @@ ghost use Rattle.store_slots.specs.View.{Holds};
 ghost use Rattle.editor_terms.specs.Answers.{codeNumber};
 ghost use Rattle.editor.specs.Lent.{lent, Does};
 ghost use Rattle.editor_write.specs.Steps.{Made};
-use editor::root::Answer;
 use editor_terms::code::Code;
+use editor_walk::apply::Answer;
 use store_slots::Record;
 
 // A failure over slices that hold an editor with an open write.

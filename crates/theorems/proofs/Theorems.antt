@@ -1,10 +1,10 @@
 -- What the statements of the public calls promise, taken together: the index. Each statement stands whole in the file that its line names, in the words of specs/ and of the contracts. Assumes nothing.
 -- I. Any two answers are equal: of the calls that change a store (`one-answer`, over the list of them in specs/Public.antt), with the cursor of an opening
--- (`one-opening`); of lookups, on the editor and below a cursor (`one-lookup`); of the request, with the output and where the tree belongs (`same-request`), also
+-- (`one-opening`); of lookups (`one-lookup`); of the request, with the output and where the tree belongs (`same-request`), also
 -- where an answer reads it (`one-next`). What two answers may differ in is listed in docs/EXCEPTIONS.md; no number of the record but the slots' is among it
 -- (`same-numbers`), and it shows in no later answer (`spare-unread` and the three like it)
 pub use Rattle.theorems.proofs.OneAnswer.{one-answer, one-opening, one-lookup, spare-unread, spare-unread-lookup}
-pub use Rattle.editor_write.proofs.Decided.{same-request}
+pub use Rattle.editor_write.proofs.SameAnswers.{same-request}
 pub use Rattle.theorems.proofs.OneRequest.{spare-unread-request}
 pub use Rattle.theorems.proofs.OneNext.{one-next, spare-unread-next}
 pub use Rattle.theorems.proofs.SameCounts.{same-numbers}

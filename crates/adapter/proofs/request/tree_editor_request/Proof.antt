@@ -20,8 +20,8 @@ returns-2 c =
 request-requires : tie.Need-request-requires
 request-requires c κs = search needs
 
-told-requires : tie.Need-told-requires
-told-requires c κs = search needs
+tell-request-requires : tie.Need-tell-request-requires
+tell-request-requires c κs = search needs
 
 same-length : tie.Need-same-length
 same-length c = search needs
@@ -38,7 +38,7 @@ returns-3 c =
     let r = t .before .before .before .before .before .before in
     let e = r .before .before in
     let a = e .before .before .before .before .before .before .before .before .before .before .args in
-    asks (lent (a .ed) (a .plens .now) (a .paths .now) (a .tlens .now) (a .trees .now) (a .order .now)) (slices (a .out .now) (a .path .now) (a .lens .now)) _ _ (record { lens = e .before .if1 .left; path = e .if2 .left }) (reads (lent (a .ed) (a .plens .now) (a .paths .now) (a .tlens .now) (a .trees .now) (a .order .now)) _ _ _ _ _ _ _ _ _ _ (t .told .ensures) (r .request .ensures))
+    asks (lent (a .ed) (a .plens .now) (a .paths .now) (a .tlens .now) (a .trees .now) (a .order .now)) (slices (a .out .now) (a .path .now) (a .lens .now)) _ _ (record { lens = e .before .if1 .left; path = e .if2 .left }) (reads (lent (a .ed) (a .plens .now) (a .paths .now) (a .tlens .now) (a .trees .now) (a .order .now)) _ _ _ _ _ _ _ _ _ _ (t .tell-request .ensures) (r .request .ensures))
 
 pub tree-editor-request-spec : {M : Type 1} → statement M
 tree-editor-request-spec =
@@ -47,7 +47,7 @@ tree-editor-request-spec =
     returns
     returns-2
     request-requires
-    told-requires
+    tell-request-requires
     same-length
     same-length-2
     same-length-3

@@ -12,8 +12,8 @@ use borrow.Author.Needs.{needs}
 use Rattle.adapter_numbers.proofs.next.answer_and_request.Statement.{statement}
 use Rattle.adapter_numbers.proofs.next.answer_and_request.Tie as tie
 
-whole-requires : tie.Need-whole-requires
-whole-requires c κs = search needs
+arguments-ok-requires : tie.Need-arguments-ok-requires
+arguments-ok-requires c κs = search needs
 
 same-length : tie.Need-same-length
 same-length c = search needs
@@ -28,27 +28,27 @@ returns : tie.Need-returns
 returns c =
     let h = c .before in
     let a = h .before .before .before .before .before .before .before .before .before .before .before .before .before .before .args in
-    not-whole (a .id .now) (lent (a .ed) (a .plens .now) (a .paths .now) (a .tlens .now) (a .trees .now) (a .order .now)) (slices (a .out .now) (a .path .now) (a .lens .now)) (a .next .now) (refused (h .whole .ensures) (not-true _ (c .if1 .taken)))
+    not-whole (a .id .now) (lent (a .ed) (a .plens .now) (a .paths .now) (a .tlens .now) (a .trees .now) (a .order .now)) (slices (a .out .now) (a .path .now) (a .lens .now)) (a .next .now) (refused (h .arguments-ok .ensures) (not-true _ (c .if1 .taken)))
 
 id-at-requires : tie.Need-id-at-requires
 id-at-requires c κs =
     let e = c .before .before .before .before .before in
-    let w = e .before .whole .ensures .yes (not-false _ (e .if1 .left)) in
+    let w = e .before .arguments-ok .ensures .yes (not-false _ (e .if1 .left)) in
     omega (arith, w .id)
 
 answer-and-request-requires : tie.Need-answer-and-request-requires
 answer-and-request-requires c κs = search needs
 
-told-requires : tie.Need-told-requires
-told-requires c κs =
+tell-request-requires : tie.Need-tell-request-requires
+tell-request-requires c κs =
     let e = c .before .before .before .before .before .before .before .before .before .before .before .before .before .before .before .before .before .before .before .before .before .before .before .before .before in
-    let w = e .before .whole .ensures .yes (not-false _ (e .if1 .left)) in
+    let w = e .before .arguments-ok .ensures .yes (not-false _ (e .if1 .left)) in
     (w .path, w .lens)
 
 slice-write-next : tie.Need-slice-write-next
 slice-write-next c =
     let e = c .before .before .before .before .before .before .before .before .before .before .before .before .before .before .before .before .before .before .before .before .before .before .before .before .before .before .before .before .before .before in
-    let w = e .before .whole .ensures .yes (not-false _ (e .if1 .left)) in
+    let w = e .before .arguments-ok .ensures .yes (not-false _ (e .if1 .left)) in
     omega (arith, w .next)
 
 number-requires : tie.Need-number-requires
@@ -90,21 +90,21 @@ returns-2 c =
     let h = e .before in
     let a = h .before .before .before .before .before .before .before .before .before .before .before .before .before .before .args in
     let r = z .answer-and-request in
-    turns (a .id .now) (lent (a .ed) (a .plens .now) (a .paths .now) (a .tlens .now) (a .trees .now) (a .order .now)) (slices (a .out .now) (a .path .now) (a .lens .now)) (a .next .now) _ _ _ _ _ (h .whole .ensures .yes (not-false _ (e .if1 .left))) (i .id-at .ensures) (does-number (c .number .ensures) (r .ensures .0))
-    (reads _ _ _ _ _ _ _ _ _ _ _ (t .told .ensures) (r .ensures .1))
+    turns (a .id .now) (lent (a .ed) (a .plens .now) (a .paths .now) (a .tlens .now) (a .trees .now) (a .order .now)) (slices (a .out .now) (a .path .now) (a .lens .now)) (a .next .now) _ _ _ _ _ (h .arguments-ok .ensures .yes (not-false _ (e .if1 .left))) (i .id-at .ensures) (does-number (c .number .ensures) (r .ensures .0))
+    (reads _ _ _ _ _ _ _ _ _ _ _ (t .tell-request .ensures) (r .ensures .1))
 
 pub answer-and-request-spec : {M : Type 1} → statement M
 answer-and-request-spec =
     tie.close
     (tie.spec
-    whole-requires
+    arguments-ok-requires
     same-length
     same-length-2
     same-length-3
     returns
     id-at-requires
     answer-and-request-requires
-    told-requires
+    tell-request-requires
     slice-write-next
     number-requires
     same-length-4

@@ -1,4 +1,4 @@
--- `adapter_numbers::told::told` meets its contract: 11 comes with the length needed, 0 with the place and both lengths, and any other number with nothing. Assumes nothing.
+-- `adapter_numbers::told::tell_request` meets its contract: 11 comes with the length needed, 0 with the place and both lengths, and any other number with nothing. Assumes nothing.
 use Prim.Native.Nat.{_≤_}
 use mathlib.Core.Path.{_≡_, sym}
 use lib.ListN.{length}
@@ -6,8 +6,8 @@ use lib.Seq.{length-take-le}
 use native.Mathlib.Omega.{arith}
 use Rattle.adapter_numbers.proofs.AskLaws.{told-lacks, told-other, told-done}
 use borrow.Author.Needs.{needs}
-use Rattle.adapter_numbers.proofs.told.told.Statement.{statement}
-use Rattle.adapter_numbers.proofs.told.told.Tie as tie
+use Rattle.adapter_numbers.proofs.told.tell_request.Statement.{statement}
+use Rattle.adapter_numbers.proofs.told.tell_request.Tie as tie
 
 number-requires : tie.Need-number-requires
 number-requires c κs = search needs
@@ -81,8 +81,8 @@ returns-3 c =
     let a = m .before .before .before .args in
     told-done (a .code) (a .len) (a .at) (a .path .now) (a .lens .now) _ (m .number .ensures) (z .if2 .left) _ _ _ (o .sound .ensures .1) (p .put .ensures .1) (p .put .ensures .0)
 
-pub told-spec : {M : Type 1} → statement M
-told-spec =
+pub tell-request-spec : {M : Type 1} → statement M
+tell-request-spec =
     tie.close
     (tie.spec
     number-requires

@@ -1,10 +1,10 @@
--- `adapter_numbers::edit::upsert_at` meets its contract: an id that has not 20 bytes and a mode that is none of the five mean no upsert, and any other means the one that is made. Assumes nothing.
+-- `adapter_numbers::edit::upsert` meets its contract: an id that has not 20 bytes and a mode that is none of the five mean no upsert, and any other means the one that is made. Assumes nothing.
 use Rattle.editor_terms.specs.Objects.{tableOf}
 use Rattle.editor.specs.Lent.{lent}
 use Rattle.adapter_numbers.proofs.NumberLaws.{bad-id, bad-mode, good-put}
 use borrow.Author.Needs.{needs}
-use Rattle.adapter_numbers.proofs.edit.upsert_at.Statement.{statement}
-use Rattle.adapter_numbers.proofs.edit.upsert_at.Tie as tie
+use Rattle.adapter_numbers.proofs.edit.upsert.Statement.{statement}
+use Rattle.adapter_numbers.proofs.edit.upsert.Tie as tie
 
 returns : tie.Need-returns
 returns c =
@@ -23,8 +23,8 @@ enum-known-kind c = search needs
 id-at-requires : tie.Need-id-at-requires
 id-at-requires c κs = search needs
 
-edited-requires : tie.Need-edited-requires
-edited-requires c κs = search needs
+numbered-edit-requires : tie.Need-numbered-edit-requires
+numbered-edit-requires c κs = search needs
 
 returns-2 : tie.Need-returns-2
 returns-2 c =
@@ -51,10 +51,10 @@ returns-3 c =
     let v = i .before .before in
     let k = v .before .before in
     let a = k .before .before .before .before .before .before .before .before .before .before .before .before .before .args in
-    good-put (tableOf (a .ids .now) (a .ends .now) (a .raws .now)) (a .mode) (a .id .now) (a .prefix .now) (a .path .now) (lent (a .ed) (a .plens .now) (a .paths .now) (a .tlens .now) (a .trees .now) (a .order .now)) _ _ _ _ _ (k .before .if1 .left) (k .kind .ensures) (v .kind2 .given .1) (i .id-at .ensures) (z .edited .ensures)
+    good-put (tableOf (a .ids .now) (a .ends .now) (a .raws .now)) (a .mode) (a .id .now) (a .prefix .now) (a .path .now) (lent (a .ed) (a .plens .now) (a .paths .now) (a .tlens .now) (a .trees .now) (a .order .now)) _ _ _ _ _ (k .before .if1 .left) (k .kind .ensures) (v .kind2 .given .1) (i .id-at .ensures) (z .numbered-edit .ensures)
 
-pub upsert-at-spec : {M : Type 1} → statement M
-upsert-at-spec =
+pub upsert-spec : {M : Type 1} → statement M
+upsert-spec =
     tie.close
     (tie.spec
     returns
@@ -62,7 +62,7 @@ upsert-at-spec =
     enum-told
     enum-known-kind
     id-at-requires
-    edited-requires
+    numbered-edit-requires
     returns-2
     same-length
     same-length-2

@@ -1,5 +1,5 @@
 -- Any two answers that a call's statement admits are equal: 13 is decided by the store alone, and any other answer by the model. Assumes nothing.
-use Prim.Native.Nat.{ℕ, _≤_}
+use Prim.Native.Nat.{ℕ}
 use mathlib.Core.Path.{_≡_, refl, sym, ap, _∙_, subst}
 use mathlib.Core.Bool.{Bool, true, false}
 use native.Mathlib.Omega.{arith}
@@ -10,7 +10,7 @@ use Rattle.model.specs.Raw.{readTree}
 use Rattle.model.specs.Editor.{Editor as Model}
 use Rattle.model.specs.Calls.{Answer, rooted}
 use Rattle.model.specs.Lookup.{Looked, found, missing, refusal}
-use Rattle.editor.specs.Lent.{Lent, Long, Good, viewed, Behind, Does}
+use Rattle.editor.specs.Lent.{Lent, Long, Good, viewed, Behind, Still, Does}
 use Rattle.editor.specs.Looks.{Looks}
 use Rattle.editor.specs.Roots.{Makes}
 use Rattle.editor.proofs.LookLaws.{refusalOf}
@@ -37,18 +37,18 @@ same-look prefix path s r r′ l l′ = go (eqb (refusalOf r) 13) refl (eqb (ref
 
 -- ---- calls that change the store
 
--- two answers are the same: the number, the editor, what lies behind the fronts, and each byte where the number is 5 or more
+-- two answers are the same: the number, the editor, what lies behind the fronts, and each byte where the number says that nothing has changed
 pub record Same (code : ℕ) (q : Lent) (code′ : ℕ) (q′ : Lent) : Type 0 where
   pub number : code ≡ code′
   pub editor : viewed q ≡ viewed q′
   pub behind : Behind q q′
-  pub bytes : 5 ≤ code → q ≡ q′
+  pub bytes : Still code → q ≡ q′
 
 -- what the statements say in common: 13 exactly where P is not so, and else the answer a
 record Told (P : Type 0) (a : Answer) (s : Lent) (code : ℕ) (q : Lent) : Type 0 where
   pub refused : code ≡ 13 → (P → ⊥) × (q ≡ s)
   pub done : (code ≡ 13 → ⊥) → P × (record { code = code; editor = viewed q } ≡ a) × Behind s q
-  pub kept : 5 ≤ code → q ≡ s
+  pub kept : Still code → q ≡ s
 
 stays-behind : (q : Lent) → Behind q q
 stays-behind q = record { plens = refl; paths = refl; tlens = refl; trees = refl; order = refl }
@@ -84,7 +84,7 @@ module _ {P : Type 0} {a : Answer} (s : Lent) (c c′ : ℕ) (q q′ : Lent) (t 
             number = n;
             editor = ap (λ (y : Answer). y .editor) x;
             behind = both-behind s q q′ (d .2) (d′ .2);
-            bytes = λ h. t .kept h ∙ sym (t′ .kept (subst (λ (m : ℕ). 5 ≤ m) n h));
+            bytes = λ h. t .kept h ∙ sym (t′ .kept (subst Still n h));
           }
 
 does-told : (f : Model → Answer) (s : Lent) (c : ℕ) (q : Lent) → Does f s c q → Told (Good s) (f (viewed s)) s c q
@@ -102,7 +102,7 @@ makes-told raw s c q m =
       kept = λ h. go h (eqb c 13) refl;
     }
   where
-    go : 5 ≤ c → (b : Bool) → eqb c 13 ≡ b → q ≡ s
+    go : Still c → (b : Bool) → eqb c 13 ≡ b → q ≡ s
     go h true e = m .refused (eqb-true c 13 e) .1
     go h false e = m .done (eqb-false c 13 e) .1 .kept h
 

@@ -1,4 +1,4 @@
--- Any two answers that a call's statement admits are the same: 14 where the arguments mean nothing, and else as the calls below. Assumes nothing.
+-- Any two answers that a call's statement admits are the same: 255 where the arguments mean nothing, and else as the calls below. Assumes nothing.
 use Prim.Native.Nat.{ℕ}
 use mathlib.Core.Path.{_≡_, refl, sym, ap, _∙_, subst}
 use mathlib.Core.Bool.{Bool, true, false}
@@ -13,7 +13,7 @@ use Rattle.model.specs.Calls.{Answer}
 use Rattle.model.specs.Formats.{sha1}
 use Rattle.model.specs.Write.{requested, show, answered}
 use Rattle.editor.specs.Lent.{Lent, Good, Behind, Does, viewed}
-use Rattle.editor.proofs.Decided.{Same, same-does}
+use Rattle.editor.proofs.SameAnswers.{Same, same-does}
 use Rattle.editor_write.specs.Requests.{shownNumber, placeIn}
 use Rattle.adapter_numbers.specs.Asks.{Slices, readTo, Room, Reads, Asks, Whole, Turns, AnswersAndAsks}
 use Rattle.adapter_numbers.specs.Numbers.{Numbers}

@@ -1,10 +1,10 @@
--- `editor::below::placed` meets its contract: only the number 0 gives the cursor at the path. Assumes nothing.
+-- `editor::cursor::placed` meets its contract: only the number 0 gives the cursor at the path. Assumes nothing.
 use mathlib.Core.Path.{sym, ap, _∙_}
 use Rattle.editor.specs.Looks.{cursorAt}
 use Rattle.editor.proofs.CursorLaws.{prefix-within, standing-at}
 use borrow.Author.Needs.{needs}
-use Rattle.editor.proofs.below.placed.Statement.{statement}
-use Rattle.editor.proofs.below.placed.Tie as tie
+use Rattle.editor.proofs.cursor.placed.Statement.{statement}
+use Rattle.editor.proofs.cursor.placed.Tie as tie
 
 number-requires : tie.Need-number-requires
 number-requires c κs = search needs

@@ -1,5 +1,5 @@
 -- Any two answers that the statement of reading the request admits are equal: 13 is decided by the store alone, and all else by what the model shows. Assumes nothing.
-use Prim.Native.Nat.{ℕ, _≤_}
+use Prim.Native.Nat.{ℕ}
 use mathlib.Core.Path.{_≡_, refl, sym, ap, ap₂, _∙_}
 use mathlib.Core.Bool.{Bool, true, false, cond}
 use mathlib.Core.List.{[], _++_}
@@ -12,7 +12,7 @@ use Rattle.model.specs.Write.{Shown, shown, short, unopened, show}
 use Rattle.editor_terms.specs.Answers.{codeNumber}
 use Rattle.editor_terms.specs.declared.code.Code.{Code}
 use Rattle.editor_terms.specs.declared.code.Code.the-variants.{Done, EmptyComponent, TreeNotFound, TreeDamaged, NotALeaf, NoRoom, PathRefused, BadTable, CursorStale, WriteOpen, NoWriteOpen, OutputShort, BadRoot, StoreDamaged}
-use Rattle.editor.specs.Lent.{Lent, viewed}
+use Rattle.editor.specs.Lent.{Lent, viewed, Still}
 use Rattle.editor.specs.declared.cursor.Cursor.{Cursor}
 use Rattle.editor_write.specs.Requests.{shownAs, shownNumber, shownLength, Requests}
 
@@ -93,7 +93,7 @@ outputOf (short m) out = out
 outputOf unopened out = out
 
 module _ (c : Code) (n : ℕ) (before after : Bytes) where
-  output-is : (x : Shown) → shownAs c n after ≡ x → drop n after ≡ drop n before → (5 ≤ codeNumber c → after ≡ before) → codeNumber c ≡ shownNumber x → n ≡ shownLength x → after ≡ outputOf x before
+  output-is : (x : Shown) → shownAs c n after ≡ x → drop n after ≡ drop n before → (Still (codeNumber c) → after ≡ before) → codeNumber c ≡ shownNumber x → n ≡ shownLength x → after ≡ outputOf x before
   output-is (shown b) e r k m l =
       sym (take-append-drop n after)
       ∙ ap₂ (λ (x y : Bytes). x ++ y) (sym (front-shown c n after) ∙ ap (frontOf (take n after)) e) (r ∙ ap (λ (j : ℕ). drop j before) l)

@@ -1,11 +1,11 @@
--- `adapter_numbers::edit::edited` meets its contract: it is the call of that name, with the number of its answer. Assumes nothing.
+-- `adapter_numbers::edit::numbered_edit` meets its contract: it is the edit, with the number of its answer. Assumes nothing.
 use Rattle.adapter_numbers.proofs.NumberLaws.{does-number}
 use borrow.Author.Needs.{needs}
-use Rattle.adapter_numbers.proofs.edit.edited.Statement.{statement}
-use Rattle.adapter_numbers.proofs.edit.edited.Tie as tie
+use Rattle.adapter_numbers.proofs.edit.numbered_edit.Statement.{statement}
+use Rattle.adapter_numbers.proofs.edit.numbered_edit.Tie as tie
 
-edited-requires : tie.Need-edited-requires
-edited-requires c κs = search needs
+edit-requires : tie.Need-edit-requires
+edit-requires c κs = search needs
 
 number-requires : tie.Need-number-requires
 number-requires c κs = search needs
@@ -23,13 +23,13 @@ same-length-4 : tie.Need-same-length-4
 same-length-4 c = search needs
 
 returns : tie.Need-returns
-returns c = does-number (c .number .ensures) (c .before .before .before .before .before .before .before .before .before .before .edited .ensures)
+returns c = does-number (c .number .ensures) (c .before .before .before .before .before .before .before .before .before .before .edit .ensures)
 
-pub edited-spec : {M : Type 1} → statement M
-edited-spec =
+pub numbered-edit-spec : {M : Type 1} → statement M
+numbered-edit-spec =
     tie.close
     (tie.spec
-    edited-requires
+    edit-requires
     number-requires
     same-length
     same-length-2

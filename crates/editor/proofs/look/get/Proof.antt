@@ -1,4 +1,4 @@
--- `editor::look::looked` meets its contract: a store that holds no editor is refused, and the fronts of the others decide. Assumes nothing.
+-- `editor::look::get` meets its contract: a store that holds no editor is refused, and the fronts of the others decide. Assumes nothing.
 use mathlib.Core.Path.{sym}
 use lib.ListN.{take}
 use lib.Seq.{length-take-le}
@@ -8,8 +8,8 @@ use Rattle.editor_walk.specs.Lookups.{lookedAs}
 use Rattle.editor.specs.Lent.{lent}
 use Rattle.editor.proofs.LookLaws.{trees-long, front-laid, front-closed, damaged, answers}
 use borrow.Author.Needs.{needs}
-use Rattle.editor.proofs.look.looked.Statement.{statement}
-use Rattle.editor.proofs.look.looked.Tie as tie
+use Rattle.editor.proofs.look.get.Statement.{statement}
+use Rattle.editor.proofs.look.get.Tie as tie
 
 holds-requires : tie.Need-holds-requires
 holds-requires c κs = search needs
@@ -64,8 +64,8 @@ returns-2 c =
     let g = h .holds .ensures .yes (not-false _ (e .if1 .left)) in
     answers (a .prefix .now) (a .path .now) (lent (a .ed) (a .plens .now) (a .paths .now) (a .tlens .now) (a .trees .now) (a .order .now)) g (lookedAs (base (a .path .now)) (c .look-held .result)) (c .look-held .ensures (take 64 (a .order .now)))
 
-pub looked-spec : {M : Type 1} → statement M
-looked-spec =
+pub get-spec : {M : Type 1} → statement M
+get-spec =
     tie.close
     (tie.spec
     holds-requires

@@ -1,4 +1,4 @@
--- `editor::edit::edited` meets its contract: a store that holds no editor is refused, and the fronts of the others are edited. Assumes nothing.
+-- `editor::edit::edit` meets its contract: a store that holds no editor is refused, and the fronts of the others are edited. Assumes nothing.
 use mathlib.Core.Path.{refl, sym}
 use lib.ListN.{take}
 use lib.Seq.{length-take-le}
@@ -8,8 +8,8 @@ use Rattle.editor_terms.specs.declared.code.Code.the-variants.{StoreDamaged}
 use Rattle.editor.proofs.LookLaws.{trees-long, front-laid, front-closed}
 use Rattle.editor.proofs.EditLaws.{front-valid, damaged, done}
 use borrow.Author.Needs.{needs}
-use Rattle.editor.proofs.edit.edited.Statement.{statement}
-use Rattle.editor.proofs.edit.edited.Tie as tie
+use Rattle.editor.proofs.edit.edit.Statement.{statement}
+use Rattle.editor.proofs.edit.edit.Tie as tie
 
 holds-requires : tie.Need-holds-requires
 holds-requires c κs = search needs
@@ -125,8 +125,8 @@ returns-2 c =
     let g = h .holds .ensures .yes (not-false _ (e .if1 .left)) in
     done (tableOf (a .ids .now) (a .ends .now) (a .raws .now)) (a .edit) (a .opening) (a .prefix .now) (a .path .now) (a .ed) (a .plens .now) (a .paths .now) (a .tlens .now) (a .trees .now) (a .order .now) g (z .edit-held .result) _ _ _ _ (z .edit-held .ensures (take 64 (a .order .now)))
 
-pub edited-spec : {M : Type 1} → statement M
-edited-spec =
+pub edit-spec : {M : Type 1} → statement M
+edit-spec =
     tie.close
     (tie.spec
     holds-requires
