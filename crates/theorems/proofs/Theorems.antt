@@ -17,11 +17,11 @@ pub use Rattle.theorems.proofs.OneNext.{next-asks}
 -- memory of any content (`made-accepted`, `accepted-from-new`); none of these calls answers 13, and neither does the request that an answer reads (`next-accepted`)
 pub use Rattle.theorems.proofs.Accepted.{accepted, made-accepted, all-accepted, accepted-from-new}
 pub use Rattle.theorems.proofs.OneNext.{next-accepted}
--- IV. Programs that the statements shut out: a call that refuses everything (`no-refuser`: a script with each of the calls is answered DONE throughout); an upsert that
--- does nothing (`no-idler`); a lookup that gives one fixed answer (`no-fixed-lookup`); a write that requests one tree and only pretends the rest (`no-pretender`);
+-- IV. Programs that the statements shut out: a call that refuses everything (`no-refuser`: a script with each of the calls is answered DONE throughout); one that accepts
+-- everything (`no-accepter`); an upsert that does nothing (`no-idler`); a lookup that gives one fixed answer (`no-fixed-lookup`); a write that requests one tree and only pretends the rest (`no-pretender`);
 -- an invented length with number 11 (`told-length`); an answer that reads the request it answered (`no-repeater`), or that is not made where the next request
 -- finds no room (`no-skipper`)
-pub use Rattle.theorems.proofs.WrongPrograms.{no-refuser, no-idler, no-fixed-lookup, no-pretender, no-repeater, no-skipper}
+pub use Rattle.theorems.proofs.WrongPrograms.{no-refuser, no-accepter, no-idler, no-fixed-lookup, no-pretender, no-repeater, no-skipper}
 pub use Rattle.theorems.proofs.OneRequest.{told-length}
 -- V. The write: 45,056 bytes of output always suffice (`output-suffices`), and a write makes at most 64 requests (`at-most-64`)
 pub use Rattle.editor_write.proofs.Theorems.{output-suffices, at-most-64}

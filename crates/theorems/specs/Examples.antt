@@ -3,6 +3,7 @@ use mathlib.Core.Bool.{false}
 use mathlib.Core.List.{List, [], _∷_}
 use Rattle.model.specs.Bytes.{Bytes}
 use Rattle.model.specs.Script.{noTable}
+use Rattle.model.specs.Table.{Table}
 use Rattle.names.specs.declared.mode.EntryKind.the-variants.{Blob}
 use Rattle.editor_terms.specs.declared.edit.Edit.the-variants.{Remove, Upsert}
 use Rattle.editor_terms.specs.declared.edit.RemoveKind.{RemoveKind}
@@ -45,3 +46,11 @@ abbrev pub script : List Call
 script =
     put-ab ∷ cut Any [] x ∷ cut Leaf [] x ∷ cursor-at noTable d ∷ put d (101 ∷ []) ∷ cut Any d x ∷ cut Leaf d x ∷ begin ∷ answer first ∷ answer first ∷ answer first
     ∷ begin-at [] ∷ fail ∷ begin ∷ answer-and-request first ∷ set-root [] ∷ []
+
+-- a table with one byte of an id and no object
+abbrev pub half : Table
+half = record { ids = 0 ∷ []; ends = []; raws = [] }
+
+-- calls that are refused: a root that is no tree, a table that is none, a prefix with no tree, a path with a NUL, no write open; and, once one is, an edit
+abbrev pub refusals : List Call
+refusals = set-root (0 ∷ []) ∷ edit half (Upsert Blob seventeen) false [] a ∷ put x a ∷ put [] (0 ∷ []) ∷ fail ∷ begin ∷ put-a ∷ []

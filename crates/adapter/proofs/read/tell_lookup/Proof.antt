@@ -7,30 +7,6 @@ use Rattle.adapter.proofs.read.tell_lookup.Tie as tie
 enum-told : tie.Need-enum-told
 enum-told c = search needs
 
-enum-known-found : tie.Need-enum-known-found
-enum-known-found c = search needs
-
-number-requires : tie.Need-number-requires
-number-requires c κs = search needs
-
-cast-result : tie.Need-cast-result
-cast-result c = search needs
-
-enum-known-found-2 : tie.Need-enum-known-found-2
-enum-known-found-2 c = search needs
-
-bytes-requires : tie.Need-bytes-requires
-bytes-requires c κs = search needs
-
-slice-aggregate-put : tie.Need-slice-aggregate-put
-slice-aggregate-put c = search needs
-
-put-requires : tie.Need-put-requires
-put-requires c κs = search needs
-
-of-requires : tie.Need-of-requires
-of-requires c κs = search needs
-
 returns : tie.Need-returns
 returns c name =
     let a = c .before .before .before .args in
@@ -41,9 +17,6 @@ returns-2 c name =
     let f = c .before .before in
     let a = f .before .before .before .args in
     gives-refused (a .found) (a .id .now) _ _ (f .found .given .1) (c .number .ensures) name
-
-same-length : tie.Need-same-length
-same-length c = search needs
 
 returns-3 : tie.Need-returns-3
 returns-3 c name =
@@ -58,15 +31,15 @@ tell-lookup-spec =
     tie.close
     (tie.spec
     enum-told
-    enum-known-found
-    number-requires
-    cast-result
-    enum-known-found-2
-    bytes-requires
-    slice-aggregate-put
-    put-requires
-    of-requires
+    (λ c. search needs)
+    (λ c κs. search needs)
+    (λ c. search needs)
+    (λ c. search needs)
+    (λ c κs. search needs)
+    (λ c. search needs)
+    (λ c κs. search needs)
+    (λ c κs. search needs)
     returns
     returns-2
-    same-length
+    (λ c. search needs)
     returns-3)

@@ -12,15 +12,6 @@ returns c =
     let a = c .before .before .before .before .before .before .before .before .before .args in
     short-slice (a .prefix .now) (a .path .now) (lent (a .ed) (a .plens .now) (a .paths .now) (a .tlens .now) (a .trees .now) (a .order .now)) (a .id .now) (c .if1 .taken)
 
-get-requires : tie.Need-get-requires
-get-requires c κs = search needs
-
-tell-lookup-requires : tie.Need-tell-lookup-requires
-tell-lookup-requires c κs = search needs
-
-same-length : tie.Need-same-length
-same-length c = search needs
-
 returns-2 : tie.Need-returns-2
 returns-2 c =
     let g = c .before .before in
@@ -31,4 +22,4 @@ returns-2 c =
     (record { looked = lookedAs (base (a .path .now)) (k .get .result); looks = k .get .ensures; gives = g .tell-lookup .ensures (base (a .path .now)) })
 
 pub tree-editor-get-spec : {M : Type 1} → statement M
-tree-editor-get-spec = tie.close (tie.spec returns get-requires tell-lookup-requires same-length returns-2)
+tree-editor-get-spec = tie.close (tie.spec returns (λ c κs. search needs) (λ c κs. search needs) (λ c. search needs) returns-2)

@@ -17,21 +17,6 @@ returns-2 c =
     let a = c .before .before .before .before .before .before .before .before .before .before .args in
     no-room (lent (a .ed) (a .plens .now) (a .paths .now) (a .tlens .now) (a .trees .now) (a .order .now)) (slices (a .out .now) (a .path .now) (a .lens .now)) (λ r. omega (arith, r .path, c .if2 .taken))
 
-request-requires : tie.Need-request-requires
-request-requires c κs = search needs
-
-tell-request-requires : tie.Need-tell-request-requires
-tell-request-requires c κs = search needs
-
-same-length : tie.Need-same-length
-same-length c = search needs
-
-same-length-2 : tie.Need-same-length-2
-same-length-2 c = search needs
-
-same-length-3 : tie.Need-same-length-3
-same-length-3 c = search needs
-
 returns-3 : tie.Need-returns-3
 returns-3 c =
     let t = c .before .before .before .before in
@@ -46,9 +31,9 @@ tree-editor-request-spec =
     (tie.spec
     returns
     returns-2
-    request-requires
-    tell-request-requires
-    same-length
-    same-length-2
-    same-length-3
+    (λ c κs. search needs)
+    (λ c κs. search needs)
+    (λ c. search needs)
+    (λ c. search needs)
+    (λ c. search needs)
     returns-3)

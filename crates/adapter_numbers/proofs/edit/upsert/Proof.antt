@@ -11,38 +11,14 @@ returns c =
     let a = c .before .before .before .before .before .before .before .before .before .before .before .before .args in
     bad-id (tableOf (a .ids .now) (a .ends .now) (a .raws .now)) (a .mode) (a .id .now) (a .prefix .now) (a .path .now) (lent (a .ed) (a .plens .now) (a .paths .now) (a .tlens .now) (a .trees .now) (a .order .now)) (c .if1 .taken)
 
-kind-requires : tie.Need-kind-requires
-kind-requires c κs = search needs
-
 enum-told : tie.Need-enum-told
 enum-told c = search needs
-
-enum-known-kind : tie.Need-enum-known-kind
-enum-known-kind c = search needs
-
-id-at-requires : tie.Need-id-at-requires
-id-at-requires c κs = search needs
-
-numbered-edit-requires : tie.Need-numbered-edit-requires
-numbered-edit-requires c κs = search needs
 
 returns-2 : tie.Need-returns-2
 returns-2 c =
     let k = c .before .before in
     let a = k .before .before .before .before .before .before .before .before .before .before .before .before .before .args in
     bad-mode (tableOf (a .ids .now) (a .ends .now) (a .raws .now)) (a .mode) (a .id .now) (a .prefix .now) (a .path .now) (lent (a .ed) (a .plens .now) (a .paths .now) (a .tlens .now) (a .trees .now) (a .order .now)) _ (k .before .if1 .left) (k .kind .ensures) (c .enum-told .given .1)
-
-same-length : tie.Need-same-length
-same-length c = search needs
-
-same-length-2 : tie.Need-same-length-2
-same-length-2 c = search needs
-
-same-length-3 : tie.Need-same-length-3
-same-length-3 c = search needs
-
-same-length-4 : tie.Need-same-length-4
-same-length-4 c = search needs
 
 returns-3 : tie.Need-returns-3
 returns-3 c =
@@ -58,14 +34,14 @@ upsert-spec =
     tie.close
     (tie.spec
     returns
-    kind-requires
+    (λ c κs. search needs)
     enum-told
-    enum-known-kind
-    id-at-requires
-    numbered-edit-requires
+    (λ c. search needs)
+    (λ c κs. search needs)
+    (λ c κs. search needs)
     returns-2
-    same-length
-    same-length-2
-    same-length-3
-    same-length-4
+    (λ c. search needs)
+    (λ c. search needs)
+    (λ c. search needs)
+    (λ c. search needs)
     returns-3)

@@ -12,18 +12,6 @@ use borrow.Author.Needs.{needs}
 use Rattle.adapter_numbers.proofs.next.answer_and_request.Statement.{statement}
 use Rattle.adapter_numbers.proofs.next.answer_and_request.Tie as tie
 
-arguments-ok-requires : tie.Need-arguments-ok-requires
-arguments-ok-requires c κs = search needs
-
-same-length : tie.Need-same-length
-same-length c = search needs
-
-same-length-2 : tie.Need-same-length-2
-same-length-2 c = search needs
-
-same-length-3 : tie.Need-same-length-3
-same-length-3 c = search needs
-
 returns : tie.Need-returns
 returns c =
     let h = c .before in
@@ -36,9 +24,6 @@ id-at-requires c κs =
     let w = e .before .arguments-ok .ensures .yes (not-false _ (e .if1 .left)) in
     omega (arith, w .id)
 
-answer-and-request-requires : tie.Need-answer-and-request-requires
-answer-and-request-requires c κs = search needs
-
 tell-request-requires : tie.Need-tell-request-requires
 tell-request-requires c κs =
     let e = c .before .before .before .before .before .before .before .before .before .before .before .before .before .before .before .before .before .before .before .before .before .before .before .before .before in
@@ -50,36 +35,6 @@ slice-write-next c =
     let e = c .before .before .before .before .before .before .before .before .before .before .before .before .before .before .before .before .before .before .before .before .before .before .before .before .before .before .before .before .before .before in
     let w = e .before .arguments-ok .ensures .yes (not-false _ (e .if1 .left)) in
     omega (arith, w .next)
-
-number-requires : tie.Need-number-requires
-number-requires c κs = search needs
-
-same-length-4 : tie.Need-same-length-4
-same-length-4 c = search needs
-
-same-length-5 : tie.Need-same-length-5
-same-length-5 c = search needs
-
-same-length-6 : tie.Need-same-length-6
-same-length-6 c = search needs
-
-same-length-7 : tie.Need-same-length-7
-same-length-7 c = search needs
-
-same-length-8 : tie.Need-same-length-8
-same-length-8 c = search needs
-
-same-length-9 : tie.Need-same-length-9
-same-length-9 c = search needs
-
-same-length-10 : tie.Need-same-length-10
-same-length-10 c = search needs
-
-same-length-11 : tie.Need-same-length-11
-same-length-11 c = search needs
-
-same-length-12 : tie.Need-same-length-12
-same-length-12 c = search needs
 
 returns-2 : tie.Need-returns-2
 returns-2 c =
@@ -97,23 +52,23 @@ pub answer-and-request-spec : {M : Type 1} → statement M
 answer-and-request-spec =
     tie.close
     (tie.spec
-    arguments-ok-requires
-    same-length
-    same-length-2
-    same-length-3
+    (λ c κs. search needs)
+    (λ c. search needs)
+    (λ c. search needs)
+    (λ c. search needs)
     returns
     id-at-requires
-    answer-and-request-requires
+    (λ c κs. search needs)
     tell-request-requires
     slice-write-next
-    number-requires
-    same-length-4
-    same-length-5
-    same-length-6
-    same-length-7
-    same-length-8
-    same-length-9
-    same-length-10
-    same-length-11
-    same-length-12
+    (λ c κs. search needs)
+    (λ c. search needs)
+    (λ c. search needs)
+    (λ c. search needs)
+    (λ c. search needs)
+    (λ c. search needs)
+    (λ c. search needs)
+    (λ c. search needs)
+    (λ c. search needs)
+    (λ c. search needs)
     returns-2)

@@ -9,18 +9,6 @@ use borrow.Author.Needs.{needs}
 use Rattle.adapter_numbers.proofs.told.tell_request.Statement.{statement}
 use Rattle.adapter_numbers.proofs.told.tell_request.Tie as tie
 
-number-requires : tie.Need-number-requires
-number-requires c κs = search needs
-
-needed-requires : tie.Need-needed-requires
-needed-requires c κs = search needs
-
-slice-write-lens : tie.Need-slice-write-lens
-slice-write-lens c = search needs
-
-same-length : tie.Need-same-length
-same-length c = search needs
-
 returns : tie.Need-returns
 returns c =
     let m = c .before .before in
@@ -32,12 +20,6 @@ returns-2 c =
     let m = c .before .before in
     let a = m .before .before .before .args in
     told-other (a .code) (a .len) (a .at) (a .path .now) (a .lens .now) _ (m .number .ensures) (c .before .if1 .left) (c .if2 .taken)
-
-sound-requires : tie.Need-sound-requires
-sound-requires c κs = search needs
-
-slice-write-lens-2 : tie.Need-slice-write-lens-2
-slice-write-lens-2 c = search needs
 
 array-share-prefix-p : tie.Need-array-share-prefix-p
 array-share-prefix-p c =
@@ -63,15 +45,6 @@ put-requires c κs =
     let l : r .len ≤ length (r .prefix) = omega (arith, e, o .sound .ensures .0) in
     omega (arith, length-take-le (r .len) (r .prefix) l, o .sound .ensures .0, o .before .before .before .before .before .before .pre .0)
 
-slice-write-lens-3 : tie.Need-slice-write-lens-3
-slice-write-lens-3 c = search needs
-
-same-length-2 : tie.Need-same-length-2
-same-length-2 c = search needs
-
-same-length-3 : tie.Need-same-length-3
-same-length-3 c = search needs
-
 returns-3 : tie.Need-returns-3
 returns-3 c =
     let p = c .before .before in
@@ -85,18 +58,18 @@ pub tell-request-spec : {M : Type 1} → statement M
 tell-request-spec =
     tie.close
     (tie.spec
-    number-requires
-    needed-requires
-    slice-write-lens
-    same-length
+    (λ c κs. search needs)
+    (λ c κs. search needs)
+    (λ c. search needs)
+    (λ c. search needs)
     returns
     returns-2
-    sound-requires
-    slice-write-lens-2
+    (λ c κs. search needs)
+    (λ c. search needs)
     array-share-prefix-p
     slice-aggregate-put
     put-requires
-    slice-write-lens-3
-    same-length-2
-    same-length-3
+    (λ c. search needs)
+    (λ c. search needs)
+    (λ c. search needs)
     returns-3)

@@ -6,29 +6,11 @@ use borrow.Author.Needs.{needs}
 use Rattle.editor.proofs.cursor.cursor_at.Statement.{statement}
 use Rattle.editor.proofs.cursor.cursor_at.Tie as tie
 
-slice-aggregate-edit : tie.Need-slice-aggregate-edit
-slice-aggregate-edit c = search needs
-
-edit-requires : tie.Need-edit-requires
-edit-requires c κs = search needs
-
 placed-requires : tie.Need-placed-requires
 placed-requires c κs =
     let z = c .before .before .before .before .before .before .before .before .before in
     let a = c .before .before .before .before .before .before .before .before .before .before .before .before .before .before .before .before .before .before .before .before .before .before .before .before .args in
     opened-short (tableOf (a .ids .now) (a .ends .now) (a .raws .now)) _ true (a .path .now) _ _ _ (z .edit .ensures)
-
-same-length : tie.Need-same-length
-same-length c = search needs
-
-same-length-2 : tie.Need-same-length-2
-same-length-2 c = search needs
-
-same-length-3 : tie.Need-same-length-3
-same-length-3 c = search needs
-
-same-length-4 : tie.Need-same-length-4
-same-length-4 c = search needs
 
 returns : tie.Need-returns
 returns c =
@@ -40,11 +22,11 @@ pub cursor-at-spec : {M : Type 1} → statement M
 cursor-at-spec =
     tie.close
     (tie.spec
-    slice-aggregate-edit
-    edit-requires
+    (λ c. search needs)
+    (λ c κs. search needs)
     placed-requires
-    same-length
-    same-length-2
-    same-length-3
-    same-length-4
+    (λ c. search needs)
+    (λ c. search needs)
+    (λ c. search needs)
+    (λ c. search needs)
     returns)

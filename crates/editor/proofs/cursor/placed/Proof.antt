@@ -6,19 +6,10 @@ use borrow.Author.Needs.{needs}
 use Rattle.editor.proofs.cursor.placed.Statement.{statement}
 use Rattle.editor.proofs.cursor.placed.Tie as tie
 
-number-requires : tie.Need-number-requires
-number-requires c κs = search needs
-
-to-cursor-requires : tie.Need-to-cursor-requires
-to-cursor-requires c κs = search needs
-
 returns : tie.Need-returns
 returns c =
     let n = c .before .before in
     (λ z. absurd (c .before .if1 .taken (n .number .ensures ∙ z)), λ z. c .to-cursor .ensures .0, λ z. absurd (c .before .if1 .taken (n .number .ensures ∙ z)), λ z. c .to-cursor .ensures .1)
-
-at-requires : tie.Need-at-requires
-at-requires c κs = search needs
 
 returns-2 : tie.Need-returns-2
 returns-2 c =
@@ -33,4 +24,4 @@ returns-2 c =
     )
 
 pub placed-spec : {M : Type 1} → statement M
-placed-spec = tie.close (tie.spec number-requires to-cursor-requires returns at-requires returns-2)
+placed-spec = tie.close (tie.spec (λ c κs. search needs) (λ c κs. search needs) returns (λ c κs. search needs) returns-2)

@@ -11,9 +11,6 @@ use borrow.Author.Needs.{needs}
 use Rattle.editor.proofs.look.get.Statement.{statement}
 use Rattle.editor.proofs.look.get.Tie as tie
 
-holds-requires : tie.Need-holds-requires
-holds-requires c κs = search needs
-
 returns : tie.Need-returns
 returns c =
     let h = c .before in
@@ -68,7 +65,7 @@ pub get-spec : {M : Type 1} → statement M
 get-spec =
     tie.close
     (tie.spec
-    holds-requires
+    (λ c κs. search needs)
     returns
     slice-aggregate-look-held
     slice-aggregate-look-held-2

@@ -25,21 +25,6 @@ drop-others-requires c κs =
     let a = s .args in
     (laid-20 (lent (a .ed) (a .plens .now) (a .paths .now) (a .tlens .now) (a .trees .now) (a .order .now)) (s .pre .0), omega arith, (a .order .now, a .ed .asked ∷ [], asked-in-hand (a .ed) (a .order .now) (s .pre .0 .ordered) (s .pre .1), t .start .ensures .1))
 
-close-requires : tie.Need-close-requires
-close-requires c κs = search needs
-
-same-length : tie.Need-same-length
-same-length c = search needs
-
-same-length-2 : tie.Need-same-length-2
-same-length-2 c = search needs
-
-same-length-3 : tie.Need-same-length-3
-same-length-3 c = search needs
-
-same-length-4 : tie.Need-same-length-4
-same-length-4 c = search needs
-
 returns : tie.Need-returns
 returns c =
     let d = c .before .before .before .before .before .before .before .before .before in
@@ -65,9 +50,9 @@ fail-held-spec =
     (tie.spec
     start-requires
     drop-others-requires
-    close-requires
-    same-length
-    same-length-2
-    same-length-3
-    same-length-4
+    (λ c κs. search needs)
+    (λ c. search needs)
+    (λ c. search needs)
+    (λ c. search needs)
+    (λ c. search needs)
     returns)
