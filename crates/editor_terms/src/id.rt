@@ -6,9 +6,6 @@ ghost use Rattle.model.specs.Bytes.{same as sameBytes};
 ghost use Rattle.model.specs.Formats.{sha1};
 ghost use Rattle.editor_terms.specs.Ids.{wordBytes, idBytes};
 
-// How many bytes an id has.
-pub const WIDTH: usize = 20;
-
 pub struct Id {
     pub a: u32,
     pub b: u32,

@@ -36,11 +36,11 @@ use Rattle.editor_terms.specs.declared.edit.Seen.the-variants as S
 use Rattle.editor_terms.specs.declared.id.Id.{Id}
 use Rattle.editor_terms.proofs.EditLaws.{seen-none, seen-some}
 use Rattle.names.proofs.FrontLaws.{Front, front-begin, front-here, front-next, piece-short, piece-slash}
-use Rattle.editor_walk.specs.Lookups.{lookedAs, stepLook, NextIs}
+use Rattle.editor_walk.specs.Lookups.{lookedAs, stepLook, LookStepIs}
 use Rattle.editor_walk.specs.declared.look.Looked.{Looked}
 use Rattle.editor_walk.specs.declared.look.Looked.the-variants.{Found, Missing}
-use Rattle.editor_walk.specs.declared.look.Next.{Next}
-use Rattle.editor_walk.specs.declared.look.Next.the-variants.{Over, In}
+use Rattle.editor_walk.specs.declared.look.LookStep.{LookStep}
+use Rattle.editor_walk.specs.declared.look.LookStep.the-variants.{Over, In}
 use Rattle.editor_walk.proofs.ComponentLaws.{components-some, restOf, rest-nil, last-base, not-last, next-base, pieces-are, either-named}
 
 -- one step, by the entry that was seen
@@ -65,12 +65,12 @@ unfolding made
 entry-is kind m id x en em ei = ap₂ (λ (a : Mode) (l : Bytes). made a m l) (sym em) (sym ei) ∙ ap (λ (l : Bytes). made (x .mode) l (x .id)) en
 
 module _ (ds : List ℕ) (ps : List Bytes) (t : Tree) (q n : Bytes) where
-  pub look-none : (b : Bool) → seenAs S.Nothing ≡ partsOf (entryOfLookup n t) → NextIs ds ps t q n b (Over Missing)
+  pub look-none : (b : Bool) → seenAs S.Nothing ≡ partsOf (entryOfLookup n t) → LookStepIs ds ps t q n b (Over Missing)
   look-none b s bs l m f rest =
       sym (ap (lookOn b (isSome (find at q (gather (slotsOf 20 ds ps bs)))) rest) (seen-none (entryOfLookup n t) s) ∙ on-none b (isSome (find at q (gather (slotsOf 20 ds ps bs)))) rest)
 
   module _ (w : wellFormed 20 t ≡ true) (p : Plain n) (kind : EntryKind) (id : Id) (s : seenAs (S.Entry kind id) ≡ partsOf (entryOfLookup n t)) where
-    pub look-found : (b : Bool) → b ≡ true → NextIs ds ps t q n b (Over (Found kind id))
+    pub look-found : (b : Bool) → b ≡ true → LookStepIs ds ps t q n b (Over (Found kind id))
     look-found b e bs l m f rest =
         let x = seen-some kind id (entryOfLookup n t) s in
         let h = either-named t n (x .0) true false w p (x .1) in
@@ -85,14 +85,14 @@ module _ (ds : List ℕ) (ps : List Bytes) (t : Tree) (q n : Bytes) where
           ∙ on-earlier (isSome (find at q (gather (slotsOf 20 ds ps bs)))) rest (x .0)
           ∙ ap (λ (z : Mode). model.pickLooked (isTree z && isSome (find at q (gather (slotsOf 20 ds ps bs)))) rest model.missing) (x .2)
 
-      pub look-other : isTree (asMode kind) ≡ false → NextIs ds ps t q n b (Over Missing)
+      pub look-other : isTree (asMode kind) ≡ false → LookStepIs ds ps t q n b (Over Missing)
       look-other f bs l m g rest = sym (earlier bs rest ∙ ap (λ (z : Bool). model.pickLooked (z && isSome (find at q (gather (slotsOf 20 ds ps bs)))) rest model.missing) f)
 
-      pub look-uncached : ((v : ℕ) (runs : List Bytes) → length runs ≡ 64 → SlotIs v ds ps runs q F.Nothing) → NextIs ds ps t q n b (Over Missing)
+      pub look-uncached : ((v : ℕ) (runs : List Bytes) → length runs ≡ 64 → SlotIs v ds ps runs q F.Nothing) → LookStepIs ds ps t q n b (Over Missing)
       look-uncached g bs l m f rest =
           sym (earlier bs rest ∙ ap (λ (o : Option Held). model.pickLooked (isTree (asMode kind) && isSome o) rest model.missing) (g 20 bs l .0) ∙ ap (λ (z : Bool). model.pickLooked z rest model.missing) (and-false (isTree (asMode kind))))
 
-      pub look-on : isTree (asMode kind) ≡ true → length ds ≡ 64 → length ps ≡ 64 → (k : ℕ) → ((v : ℕ) (runs : List Bytes) → length runs ≡ 64 → SlotIs v ds ps runs q (F.At k)) → NextIs ds ps t q n b (In k)
+      pub look-on : isTree (asMode kind) ≡ true → length ds ≡ 64 → length ps ≡ 64 → (k : ℕ) → ((v : ℕ) (runs : List Bytes) → length runs ≡ 64 → SlotIs v ds ps runs q (F.At k)) → LookStepIs ds ps t q n b (In k)
       look-on f ld lp k g =
           let x = seen-some kind id (entryOfLookup n t) s in
           let h = either-named t n (x .0) true false w p (x .1) in
@@ -127,9 +127,9 @@ look-begin r plens paths tlens trees whole path slot u e n =
       rest = ap (λ (ns : List Bytes). look ns (pathOf plens paths slot) (viewOf 20 r plens paths tlens trees)) (components-some path n);
     }
 
-next-same : (ds : List ℕ) (ps : List Bytes) {t u : Tree} {q q′ n n′ : Bytes} (b : Bool) (y : Next) → t ≡ u → q ≡ q′ → n ≡ n′ → NextIs ds ps t q n b y → NextIs ds ps u q′ n′ b y
+next-same : (ds : List ℕ) (ps : List Bytes) {t u : Tree} {q q′ n n′ : Bytes} (b : Bool) (y : LookStep) → t ≡ u → q ≡ q′ → n ≡ n′ → LookStepIs ds ps t q n b y → LookStepIs ds ps u q′ n′ b y
 next-same ds ps {t} {u} {q} {q′} {n} {n′} b y et eq en h =
-    subst (λ (z : Tree). NextIs ds ps z q′ n′ b y) et (subst (λ (z : Bytes). NextIs ds ps t z n′ b y) eq (subst (λ (z : Bytes). NextIs ds ps t q z b y) en h))
+    subst (λ (z : Tree). LookStepIs ds ps z q′ n′ b y) et (subst (λ (z : Bytes). LookStepIs ds ps t z n′ b y) eq (subst (λ (z : Bytes). LookStepIs ds ps t q z b y) en h))
 
 module _ {r : Record} {plens paths tlens trees : List ℕ} {whole : Bytes} {goal : model.Looked} {path p : Bytes} {slot : ℕ} (s : Looking r plens paths tlens trees whole goal path p slot)
     (L : Laid 20 r plens paths tlens trees) (cl : r .hidden ≡ r .free) {k : ℕ} (e : k ≡ length (firstPiece p)) {b : Bool} (eb : b ≡ eqb k (length p)) where
@@ -147,22 +147,22 @@ module _ {r : Record} {plens paths tlens trees : List ℕ} {whole : Bytes} {goal
       ∙ ap (λ (c : Cache). lookOn b (isSome (find at (join q (take k p)) c)) (look (restOf b p k) (join q (take k p)) view) (entryOfLookup (take k p) (treeOf 20 tlens trees slot))) (sym (cached-view 20 r plens paths tlens trees cl))
 
   module _ {tree below name : Bytes} {end : ℕ} (et : tree ≡ runOf tlens trees slot) (ee : end ≡ length whole - length p + k) (ew : below ≡ take end whole) (en : name ≡ take k p) where
-    placed : (y : Next) → NextIs (digits 64 (r .hidden)) (cut plens paths) (unpack 20 tree) below name b y →
-        NextIs (digits 64 (r .hidden)) (cut plens paths) (treeOf 20 tlens trees slot) (join q (take k p)) (take k p) b y
+    placed : (y : LookStep) → LookStepIs (digits 64 (r .hidden)) (cut plens paths) (unpack 20 tree) below name b y →
+        LookStepIs (digits 64 (r .hidden)) (cut plens paths) (treeOf 20 tlens trees slot) (join q (take k p)) (take k p) b y
     placed y h =
         next-same (digits 64 (r .hidden)) (cut plens paths) b y (ap (unpack 20) et ∙ tree-run 20 r plens paths tlens trees L slot (s .used .low)) (ew ∙ front-here (s .front) k end (piece-short p k e) ee) en h
 
     all-runs : length (cut tlens trees) ≡ 64
     all-runs = length-cut tlens trees ∙ L .tlens-64
 
-    pub look-over : {y : Next} → NextIs (digits 64 (r .hidden)) (cut plens paths) (unpack 20 tree) below name b y → {x : Looked} → y ≡ Over x → lookedAs (base path) x ≡ goal
+    pub look-over : {y : LookStep} → LookStepIs (digits 64 (r .hidden)) (cut plens paths) (unpack 20 tree) below name b y → {x : Looked} → y ≡ Over x → lookedAs (base path) x ≡ goal
     look-over {y} h {x} ey =
-        let g = placed (Over x) (subst (NextIs (digits 64 (r .hidden)) (cut plens paths) (unpack 20 tree) below name b) ey h) in
+        let g = placed (Over x) (subst (LookStepIs (digits 64 (r .hidden)) (cut plens paths) (unpack 20 tree) below name b) ey h) in
         g (cut tlens trees) all-runs (base path) (λ t. sym (s .named) ∙ last-base p k e eb t) (look (restOf b p k) (join q (take k p)) view) ∙ sym step
 
-    module _ {y : Next} (h : NextIs (digits 64 (r .hidden)) (cut plens paths) (unpack 20 tree) below name b y) {x : ℕ} (ey : y ≡ In x) where
-      goes-on : NextIs (digits 64 (r .hidden)) (cut plens paths) (treeOf 20 tlens trees slot) (join q (take k p)) (take k p) b (In x)
-      goes-on = placed (In x) (subst (NextIs (digits 64 (r .hidden)) (cut plens paths) (unpack 20 tree) below name b) ey h)
+    module _ {y : LookStep} (h : LookStepIs (digits 64 (r .hidden)) (cut plens paths) (unpack 20 tree) below name b y) {x : ℕ} (ey : y ≡ In x) where
+      goes-on : LookStepIs (digits 64 (r .hidden)) (cut plens paths) (treeOf 20 tlens trees slot) (join q (take k p)) (take k p) b (In x)
+      goes-on = placed (In x) (subst (LookStepIs (digits 64 (r .hidden)) (cut plens paths) (unpack 20 tree) below name b) ey h)
 
       pub look-shorter : k < length p
       look-shorter = not-last p k e eb (goes-on .0)

@@ -31,8 +31,9 @@ use Rattle.store_slots.proofs.Relaid.{find-slot}
 use Rattle.store_slots.proofs.Calls.{searched-run}
 use Rattle.model.proofs.SoundTrees.{sound-well}
 use Rattle.editor_terms.specs.Answers.{codeNumber}
-use Rattle.editor_terms.specs.Edits.{asEdit, partsOf, seenAs, turnAs, goesOn, wantedBy, countsAfter, sightAs, TurnIs}
+use Rattle.editor_terms.specs.Edits.{asEdit, partsOf, seenAs, turnAs, goesOn, wantedBy, endsWith, countsAfter, sightAs, TurnIs}
 use Rattle.editor_terms.specs.declared.code.Code.{Code}
+use Rattle.editor_terms.specs.declared.code.Code.the-variants.{Done}
 use Rattle.editor_terms.specs.declared.edit.Edit.{Edit}
 use Rattle.editor_terms.specs.declared.edit.Seen.{Seen}
 use Rattle.editor_terms.specs.declared.edit.Turn.{Turn}
@@ -40,14 +41,15 @@ use Rattle.editor_terms.specs.declared.edit.Turn.the-variants.{Stop, Cut, Put, 
 use Rattle.names.proofs.FrontLaws.{Front, front-begin, front-here, front-next, piece-short, piece-slash}
 use Rattle.editor_walk.specs.Counted.{countsAs, recordCounts}
 use Rattle.editor_walk.specs.Landings.{caches, stops, planned, LandsAs}
-use Rattle.editor_walk.specs.Levels.{Stored, Stands, GaugeIs, EndsAs, CachesAs, LandIs, LandedAs, downAs, stepAs}
+use Rattle.editor_walk.specs.Levels.{Stored, Stands, StepIs, EndsAs, CachesAs, LandIs, LandedAs, MeasuredAs, downAs, stepAs}
 use Rattle.editor_walk.specs.declared.counts.Counts.{Counts as CodeCounts}
 use Rattle.editor_walk.specs.declared.land.Raw.{Raw as RawTree}
 use Rattle.editor_walk.specs.declared.land.Landing.{Landing}
 use Rattle.editor_walk.specs.declared.land.Landing.the-variants.{There, Fresh, Load, Halt}
 use Rattle.editor_walk.specs.declared.measure.Level.{Level}
 use Rattle.editor_walk.specs.declared.measure.Level.the-variants.{Slot, Raw, Empty}
-use Rattle.editor_walk.specs.declared.measure.Gauge.{Gauge}
+use Rattle.editor_walk.specs.declared.measure.Measured.{Measured as Answer}
+use Rattle.editor_walk.specs.declared.measure.MeasureStep.{MeasureStep}
 use Rattle.editor_walk.proofs.ComponentLaws.{components-some, restOf, rest-nil, not-last, pieces-are}
 use Rattle.editor_walk.proofs.CountLaws.{counts-view, counts-room, many-entries, many-names}
 use Rattle.editor_walk.proofs.LandLaws.{landing-there, landing-new}
@@ -60,52 +62,74 @@ counted-past : (v : Counts) (m : Measured) → within v ≡ false → counted v 
 unfolding counted
 counted-past v m h = ap (λ (b : Bool). b && m .kept) h
 
-counted-on : (v : Counts) (m : Measured) → within v ≡ true → counted v m .kept ≡ m .kept
+counted-on : (v : Counts) (m : Measured) → within v ≡ true → counted v m ≡ m
 unfolding counted
-counted-on v m h = ap (λ (b : Bool). b && m .kept) h
+counted-on v m h = ap (λ (b : Bool). record { code = m .code; kept = b && m .kept }) h
 
 over-kept : (k : ℕ) → over k .kept ≡ true
 unfolding over
 over-kept k = refl
 
--- gauges
-module _ {tlens trees : List ℕ} {raws : Bytes} {m : Next → Measured} {g : Gauge} where
-  pub ends-past : EndsAs false g → ((next : Next) → m next .kept ≡ false) → GaugeIs tlens trees raws m g
-  ends-past e h = record { past = λ k next. h next; stop = λ k s. no-way (sym k ∙ e .kept); on = λ k s. no-way (sym k ∙ e .kept) }
+over-code : (k : ℕ) → over k .code ≡ k
+unfolding over
+over-code k = refl
 
-  pub ends-stop : EndsAs true g → ((next : Next) → m next .kept ≡ true) → GaugeIs tlens trees raws m g
-  ends-stop e h = record { past = λ k. no-way (sym (e .kept) ∙ k); stop = λ k s next. h next; on = λ k s. no-way (sym s ∙ e .going) }
+-- steps
+module _ {tlens trees : List ℕ} {raws : Bytes} {m : Next → Measured} {g : MeasureStep} where
+  pub ends-past : EndsAs 5 false g → ((next : Next) → m next .kept ≡ false) → StepIs tlens trees raws m g
+  ends-past e h =
+      record {
+        past = λ k. (e .code, h);
+        stop = λ k s. no-way (sym k ∙ e .kept);
+        on = λ k s. no-way (sym k ∙ e .kept);
+        done = λ k s. no-way (sym k ∙ e .kept);
+      }
 
-gauge-same : {tlens trees : List ℕ} {raws : Bytes} {m n : Next → Measured} {g : Gauge} → ((next : Next) → n next .kept ≡ m next .kept) → GaugeIs tlens trees raws m g → GaugeIs tlens trees raws n g
-gauge-same h k =
+  pub ends-stop : {x : ℕ} → EndsAs x true g → ((next : Next) → m next ≡ over x) → StepIs tlens trees raws m g
+  ends-stop e h =
+      record {
+        past = λ k. no-way (sym (e .kept) ∙ k);
+        stop = λ k s next. h next ∙ sym (ap over (e .code));
+        on = λ k s. no-way (sym s ∙ e .going);
+        done = λ k s. no-way (sym s ∙ e .going);
+      }
+
+step-same : {tlens trees : List ℕ} {raws : Bytes} {m n : Next → Measured} {g : MeasureStep} → ((next : Next) → n next ≡ m next) → StepIs tlens trees raws m g → StepIs tlens trees raws n g
+step-same h k =
     record {
-      past = λ a next. h next ∙ k .past a next;
+      past = λ a. let (x, y) = k .past a in (x, λ next. ap (λ (z : Measured). z .kept) (h next) ∙ y next);
       stop = λ a b next. h next ∙ k .stop a b next;
       on = λ a b. let (t, s, w, r) = k .on a b in (t, s, w, λ next. h next ∙ r next);
+      done = k .done;
     }
 
 -- a tree that is to be cached
 module _ {level : Level} {entries names n : ℕ} {u : Counts} where
-  pub cached-entries : {g : Gauge} → 1024 < entries → EndsAs false g → CachesAs level entries names n u g
+  pub cached-entries : {g : MeasureStep} → 1024 < entries → EndsAs 5 false g → CachesAs level entries names n u g
   cached-entries h e =
       record { is = λ tlens trees raws q t en ee em s. ends-past e (λ next. counted-past (plusTree q t u) (next t (plusTree q t u)) (many-entries u q t (omega (arith, h, ee)))) }
 
-  pub cached-names : {g : Gauge} → 16384 < names → EndsAs false g → CachesAs level entries names n u g
+  pub cached-names : {g : MeasureStep} → 16384 < names → EndsAs 5 false g → CachesAs level entries names n u g
   cached-names h e =
       record { is = λ tlens trees raws q t en ee em s. ends-past e (λ next. counted-past (plusTree q t u) (next t (plusTree q t u)) (many-names u q t (omega (arith, h, em)))) }
 
-  pub cached-on : (v : CodeCounts) (b : Bool) → b ≡ within (countsAs v) → ((q : Bytes) (t : Tree) → n ≡ length q → entries ≡ length t → names ≡ nameBytes t → countsAs v ≡ plusTree q t u) →
-      CachesAs level entries names n u (record { kept = b; going = true; level = level; counts = v })
-  cached-on v b eb ev =
-      record {
-        is = λ tlens trees raws q t en ee em s.
-            let e = ev q t en ee em in
-            record {
-              past = λ k next. counted-past (plusTree q t u) (next t (plusTree q t u)) (ap within (sym e) ∙ sym eb ∙ k);
-              stop = λ k a. no-way a;
-              on = λ k a. (t, s, sym eb ∙ k, λ next. counted-on (plusTree q t u) (next t (plusTree q t u)) (ap within (sym e) ∙ sym eb ∙ k) ∙ ap (λ (z : Counts). next t z .kept) (sym e));
-            };
-      }
+  module _ (v : CodeCounts) (ev : (q : Bytes) (t : Tree) → n ≡ length q → entries ≡ length t → names ≡ nameBytes t → countsAs v ≡ plusTree q t u) where
+    pub cached-past : {g : MeasureStep} → within (countsAs v) ≡ false → EndsAs 5 false g → CachesAs level entries names n u g
+    cached-past h e =
+        record { is = λ tlens trees raws q t en ee em s. ends-past e (λ next. counted-past (plusTree q t u) (next t (plusTree q t u)) (ap within (sym (ev q t en ee em)) ∙ h)) }
+
+    pub cached-on : within (countsAs v) ≡ true → CachesAs level entries names n u (record { code = Done; kept = true; going = true; level = level; counts = v })
+    cached-on h =
+        record {
+          is = λ tlens trees raws q t en ee em s.
+              let e = ev q t en ee em in
+              record {
+                past = λ k. no-way k;
+                stop = λ k a. no-way a;
+                on = λ k a. (t, s, h, λ next. counted-on (plusTree q t u) (next t (plusTree q t u)) (ap within (sym e) ∙ h) ∙ ap (next t) (sym e));
+                done = λ k a. refl;
+              };
+        }
 
 -- the step down, by what is found there
 on-there : (next : Next) (u : Counts) (l : model.Landing) (t : Tree) → l ≡ model.there t → onLanding next u l ≡ next t u
@@ -121,7 +145,7 @@ unfolding onLanding
 on-halts next u l k e = ap (onLanding next u) e
 
 module _ {x : Landing} {n : ℕ} where
-  pub landed-there : (u : CodeCounts) → within (countsAs u) ≡ true → {s : ℕ} → x ≡ There s → LandedAs x n (countsAs u) (record { kept = true; going = true; level = Slot s; counts = u })
+  pub landed-there : (u : CodeCounts) → within (countsAs u) ≡ true → {s : ℕ} → x ≡ There s → LandedAs x n (countsAs u) (record { code = Done; kept = true; going = true; level = Slot s; counts = u })
   landed-there u w {s} ex =
       record {
         is = λ tlens trees raws q l en li.
@@ -129,17 +153,18 @@ module _ {x : Landing} {n : ℕ} where
             record {
               past = λ k. no-way k;
               stop = λ k a. no-way a;
-              on = λ k a. (treeOf 20 tlens trees s, (h .0, refl), w, λ next. ap (λ (z : Measured). z .kept) (on-there next (countsAs u) l (treeOf 20 tlens trees s) (h .1)));
+              on = λ k a. (treeOf 20 tlens trees s, (h .0, refl), w, λ next. on-there next (countsAs u) l (treeOf 20 tlens trees s) (h .1));
+              done = λ k a. refl;
             };
       }
 
-  module _ {u : Counts} {g : Gauge} where
-    pub landed-halt : EndsAs true g → {code : Code} → x ≡ Halt code → LandedAs x n u g
-    landed-halt e {code} ex =
+  module _ {u : Counts} {g : MeasureStep} where
+    pub landed-halt : {code : Code} → EndsAs (codeNumber code) true g → x ≡ Halt code → LandedAs x n u g
+    landed-halt {code} e ex =
         record {
           is = λ tlens trees raws q l en li.
               let h : LandIs tlens trees raws q u (Halt code) l = subst (λ (z : Landing). LandIs tlens trees raws q u z l) ex li in
-              ends-stop e (λ next. ap (λ (z : Measured). z .kept) (on-halts next u l (codeNumber code) h) ∙ over-kept (codeNumber code));
+              ends-stop e (λ next. on-halts next u l (codeNumber code) h);
         }
 
     pub landed-fresh : CachesAs Empty 0 0 n u g → x ≡ Fresh → LandedAs x n u g
@@ -147,7 +172,7 @@ module _ {x : Landing} {n : ℕ} where
         record {
           is = λ tlens trees raws q l en li.
               let h : LandIs tlens trees raws q u Fresh l = subst (λ (z : Landing). LandIs tlens trees raws q u z l) ex li in
-              gauge-same (λ next. ap (λ (z : Measured). z .kept) (on-lands next u (plusTree q [] u) l [] h)) (k .is tlens trees raws q [] en refl refl refl);
+              step-same (λ next. on-lands next u (plusTree q [] u) l [] h) (k .is tlens trees raws q [] en refl refl refl);
         }
 
     pub landed-load : {r : RawTree} → CachesAs (Raw (r .from) (r .to)) (r .entries) (r .names) n u g → x ≡ Load r → LandedAs x n u g
@@ -157,7 +182,7 @@ module _ {x : Landing} {n : ℕ} where
               let h : LandIs tlens trees raws q u (Load r) l = subst (λ (z : Landing). LandIs tlens trees raws q u z l) ex li in
               let t = h .0 in
               let i = h .1 in
-              gauge-same (λ next. ap (λ (z : Measured). z .kept) (on-lands next u (plusTree q t u) l t (h .2))) (k .is tlens trees raws q t en (i .entries) (i .names) (i .order, i .inside, i .reads));
+              step-same (λ next. on-lands next u (plusTree q t u) l t (h .2)) (k .is tlens trees raws q t en (i .entries) (i .names) (i .order, i .inside, i .reads));
         }
 
 -- what going down finds is the model's landing
@@ -188,31 +213,31 @@ module _ (T : Table) (e : walk.Edit) (q : Bytes) (o : Option Held) (n : Bytes) (
   sight-past (Put k i) false w h = counted-past (countsAfter (Put k i) s n u) _ h
   sight-past (Down i) b w h = no-way (sym w ∙ h)
 
-  sight-stop : (r : Turn) (b : Bool) (t : Tree) → within (countsAfter r s n u) ≡ true → goesOn opening (turnAs r b n t) ≡ false → onSight sha1 T e opening q o next (sightAs r b s n u) .kept ≡ true
-  unfolding onSight over
+  sight-stop : (r : Turn) (b : Bool) (t : Tree) → within (countsAfter r s n u) ≡ true → goesOn opening (turnAs r b n t) ≡ false → onSight sha1 T e opening q o next (sightAs r b s n u) ≡ over (endsWith r)
+  unfolding onSight
   sight-stop (Stop code) b t w h = refl
   sight-stop Cut b t w h =
-      counted-on (countsAfter Cut s n u) _ w ∙ ap (λ (z : Bool). pickMeasured z (onLanding next (countsAfter Cut s n u) (landing sha1 T e q (countsAfter Cut s n u) none o)) (over 0) .kept) h
+      counted-on (countsAfter Cut s n u) _ w ∙ ap (λ (z : Bool). pickMeasured z (onLanding next (countsAfter Cut s n u) (landing sha1 T e q (countsAfter Cut s n u) none o)) (over 0)) h
   sight-stop (Put k i) true t w h =
-      counted-on (countsAfter (Put k i) s n u) _ w ∙ ap (λ (z : Bool). pickMeasured z (onLanding next (countsAfter (Put k i) s n u) (landing sha1 T e q (countsAfter (Put k i) s n u) none o)) (over 0) .kept) h
+      counted-on (countsAfter (Put k i) s n u) _ w ∙ ap (λ (z : Bool). pickMeasured z (onLanding next (countsAfter (Put k i) s n u) (landing sha1 T e q (countsAfter (Put k i) s n u) none o)) (over 0)) h
   sight-stop (Put k i) false t w h = no-way h
   sight-stop (Down i) b t w h = no-way h
 
   sight-on : (r : Turn) (b : Bool) (t : Tree) → within (countsAfter r s n u) ≡ true → goesOn opening (turnAs r b n t) ≡ true →
-      onSight sha1 T e opening q o next (sightAs r b s n u) .kept ≡ onLanding next (countsAfter r s n u) (landing sha1 T e q (countsAfter r s n u) (wantedBy r) o) .kept
+      onSight sha1 T e opening q o next (sightAs r b s n u) ≡ onLanding next (countsAfter r s n u) (landing sha1 T e q (countsAfter r s n u) (wantedBy r) o)
   unfolding onSight
   sight-on (Stop code) b t w h = no-way (sym h)
   sight-on Cut b t w h =
-      counted-on (countsAfter Cut s n u) _ w ∙ ap (λ (z : Bool). pickMeasured z (onLanding next (countsAfter Cut s n u) (landing sha1 T e q (countsAfter Cut s n u) none o)) (over 0) .kept) h
+      counted-on (countsAfter Cut s n u) _ w ∙ ap (λ (z : Bool). pickMeasured z (onLanding next (countsAfter Cut s n u) (landing sha1 T e q (countsAfter Cut s n u) none o)) (over 0)) h
   sight-on (Put k i) true t w h =
-      counted-on (countsAfter (Put k i) s n u) _ w ∙ ap (λ (z : Bool). pickMeasured z (onLanding next (countsAfter (Put k i) s n u) (landing sha1 T e q (countsAfter (Put k i) s n u) none o)) (over 0) .kept) h
+      counted-on (countsAfter (Put k i) s n u) _ w ∙ ap (λ (z : Bool). pickMeasured z (onLanding next (countsAfter (Put k i) s n u) (landing sha1 T e q (countsAfter (Put k i) s n u) none o)) (over 0)) h
   sight-on (Put k i) false t w h = counted-on (countsAfter (Put k i) s n u) _ w
   sight-on (Down i) b t w h = counted-on (countsAfter (Down i) s n u) _ w
 
 -- one step
-pub step-empty : (T : Table) (e : walk.Edit) (opening b : Bool) (q n : Bytes) (t : Tree) (c : Cache) (u : Counts) {tlens trees : List ℕ} {raws : Bytes} {g : Gauge} → length n ≡ 0 → EndsAs true g →
-    GaugeIs tlens trees raws (stepAs T e opening b q n t c u) g
-step-empty T e opening b q [] t c u z k = ends-stop k (λ next. over-kept 1)
+pub step-empty : (T : Table) (e : walk.Edit) (opening b : Bool) (q n : Bytes) (t : Tree) (c : Cache) (u : Counts) {tlens trees : List ℕ} {raws : Bytes} {g : MeasureStep} → length n ≡ 0 → EndsAs 1 true g →
+    StepIs tlens trees raws (stepAs T e opening b q n t c u) g
+step-empty T e opening b q [] t c u z k = ends-stop k (λ next. refl)
 step-empty T e opening b q (x ∷ n) t c u z k = absurd (omega (arith, z))
 
 pub nil-length : (n : Bytes) → (length n ≡ 0 → ⊥) → isNil n ≡ false
@@ -226,21 +251,17 @@ module _ (T : Table) (edit : Edit) (opening b : Bool) (q n : Bytes) (c : Cache) 
       ap (λ (z : Bool). pickMeasured z (over 1) (onSight sha1 T (asEdit edit) opening q (find at q c) next (seen b (asEdit edit) n u (entryOf n t)))) (nil-length n bytes)
       ∙ ap (onSight sha1 T (asEdit edit) opening q (find at q c) next) (ti .counts n u (entryOf n t) es)
 
-  sight-kept : (next : Next) (x : Bool) → onSight sha1 T (asEdit edit) opening q (find at q c) next (sightAs r b s n u) .kept ≡ x → stepAs T (asEdit edit) opening b q n t c u next .kept ≡ x
-  sight-kept next x h = ap (λ (z : Measured). z .kept) (at-sight next) ∙ h
+  module _ {tlens trees : List ℕ} {raws : Bytes} {g : MeasureStep} where
+    pub step-past : within u ≡ true → within v ≡ false → EndsAs 5 false g → StepIs tlens trees raws (stepAs T (asEdit edit) opening b q n t c u) g
+    step-past w h e = ends-past e (λ next. ap (λ (z : Measured). z .kept) (at-sight next) ∙ sight-past T (asEdit edit) q (find at q c) n u s opening next r b w (ap within (sym ev) ∙ h))
 
-  module _ {tlens trees : List ℕ} {raws : Bytes} {g : Gauge} where
-    pub step-past : within u ≡ true → within v ≡ false → EndsAs false g → GaugeIs tlens trees raws (stepAs T (asEdit edit) opening b q n t c u) g
-    step-past w h e = ends-past e (λ next. sight-kept next false (sight-past T (asEdit edit) q (find at q c) n u s opening next r b w (ap within (sym ev) ∙ h)))
+    pub step-stop : within v ≡ true → goesOn opening (turnAs r b n t) ≡ false → {x : ℕ} → x ≡ endsWith r → EndsAs x true g → StepIs tlens trees raws (stepAs T (asEdit edit) opening b q n t c u) g
+    step-stop w h ex e = ends-stop e (λ next. at-sight next ∙ sight-stop T (asEdit edit) q (find at q c) n u s opening next r b t (ap within (sym ev) ∙ w) h ∙ sym (ap over ex))
 
-    pub step-stop : within v ≡ true → goesOn opening (turnAs r b n t) ≡ false → EndsAs true g → GaugeIs tlens trees raws (stepAs T (asEdit edit) opening b q n t c u) g
-    step-stop w h e = ends-stop e (λ next. sight-kept next true (sight-stop T (asEdit edit) q (find at q c) n u s opening next r b t (ap within (sym ev) ∙ w) h))
-
-    pub step-on : within v ≡ true → goesOn opening (turnAs r b n t) ≡ true → GaugeIs tlens trees raws (downAs T (asEdit edit) q (wantedBy r) c v) g → GaugeIs tlens trees raws (stepAs T (asEdit edit) opening b q n t c u) g
+    pub step-on : within v ≡ true → goesOn opening (turnAs r b n t) ≡ true → StepIs tlens trees raws (downAs T (asEdit edit) q (wantedBy r) c v) g → StepIs tlens trees raws (stepAs T (asEdit edit) opening b q n t c u) g
     step-on w h k =
-        gauge-same (λ next.
-        sight-kept next (downAs T (asEdit edit) q (wantedBy r) c v next .kept)
-        (sight-on T (asEdit edit) q (find at q c) n u s opening next r b t (ap within (sym ev) ∙ w) h ∙ ap (λ (z : Counts). downAs T (asEdit edit) q (wantedBy r) c z next .kept) (sym ev))) k
+        step-same (λ next.
+        at-sight next ∙ sight-on T (asEdit edit) q (find at q c) n u s opening next r b t (ap within (sym ev) ∙ w) h ∙ ap (λ (z : Counts). downAs T (asEdit edit) q (wantedBy r) c z next) (sym ev)) k
 
 -- the trees of a store that is laid out
 pub stored : {r : Record} {plens paths tlens trees : List ℕ} → Laid 20 r plens paths tlens trees → Stored (r .trees) tlens trees
@@ -259,21 +280,21 @@ pub stands-as : (tlens trees : List ℕ) (raws : Bytes) (t : Tree) {l m : Level}
 stands-as tlens trees raws t e h = subst (λ (z : Level). Stands tlens trees raws z t) e h
 
 -- the loop
-pub record Measuring (T : Table) (e : walk.Edit) (opening : Bool) (c : Cache) (tlens trees : List ℕ) (raws whole : Bytes) (goal : Bool) (p : Bytes) (level : Level) (u : Counts) : Type 0 where
+pub record Measuring (T : Table) (e : walk.Edit) (opening : Bool) (c : Cache) (tlens trees : List ℕ) (raws whole : Bytes) (goal : Measured) (p : Bytes) (level : Level) (u : Counts) : Type 0 where
   pub tree : Tree
   pub stands : Stands tlens trees raws level tree
   pub room : within u ≡ true
   pub so-far : Bytes
   pub front : Front whole so-far p
-  pub rest : goal ≡ measured sha1 T e opening (pieces p) so-far tree c u .kept
+  pub rest : goal ≡ measured sha1 T e opening (pieces p) so-far tree c u
 
-pub measure-empty : (T : Table) (e : walk.Edit) (opening : Bool) (q path : Bytes) (c : Cache) → length path ≡ 0 → true ≡ measure sha1 T e opening q path c .kept
-measure-empty T e opening q [] c z = sym (over-kept 0)
+pub measure-empty : (T : Table) (e : walk.Edit) (opening : Bool) (q path : Bytes) (c : Cache) → length path ≡ 0 → MeasuredAs (measure sha1 T e opening q path c) (record { code = Done; kept = true })
+measure-empty T e opening q [] c z = record { kept = sym (over-kept 0); code = λ h. sym (over-code 0); past = λ h. no-way h }
 measure-empty T e opening q (b ∷ bs) c z = absurd (omega (arith, z))
 
 pub measure-begin : (T : Table) (e : walk.Edit) (opening : Bool) (r : Record) (plens paths tlens trees : List ℕ) (raws whole path : Bytes) (slot : ℕ) → Laid 20 r plens paths tlens trees →
     editor.fits (viewOf 20 r plens paths tlens trees) ≡ true → Used r slot → whole ≡ full (pathOf plens paths slot) path → (length path ≡ 0 → ⊥) → (u : Counts) → u ≡ recordCounts r →
-    Measuring T e opening (viewOf 20 r plens paths tlens trees) tlens trees raws whole (measure sha1 T e opening (pathOf plens paths slot) path (viewOf 20 r plens paths tlens trees) .kept) path (Slot slot) u
+    Measuring T e opening (viewOf 20 r plens paths tlens trees) tlens trees raws whole (measure sha1 T e opening (pathOf plens paths slot) path (viewOf 20 r plens paths tlens trees)) path (Slot slot) u
 measure-begin T e opening r plens paths tlens trees raws whole path slot L f U ew n u eu =
     record {
       tree = treeOf 20 tlens trees slot;
@@ -282,50 +303,63 @@ measure-begin T e opening r plens paths tlens trees raws whole path slot L f U e
       so-far = pathOf plens paths slot;
       front = subst (λ (z : Bytes). Front z (pathOf plens paths slot) path) (sym ew) (front-begin (pathOf plens paths slot) path n);
       rest =
-          ap (λ (ns : List Bytes). measured sha1 T e opening ns (pathOf plens paths slot) (treeAt (pathOf plens paths slot) view) view (countsOf view) .kept) (components-some path n)
-          ∙ ap₂ (λ (o : Option Held) (v : Counts). measured sha1 T e opening (pieces path) (pathOf plens paths slot) (editor.treeOf o) view v .kept) (find-slot 20 r plens paths tlens trees L slot (U .low) (U .used))
+          ap (λ (ns : List Bytes). measured sha1 T e opening ns (pathOf plens paths slot) (treeAt (pathOf plens paths slot) view) view (countsOf view)) (components-some path n)
+          ∙ ap₂ (λ (o : Option Held) (v : Counts). measured sha1 T e opening (pieces path) (pathOf plens paths slot) (editor.treeOf o) view v) (find-slot 20 r plens paths tlens trees L slot (U .low) (U .used))
           (sym (eu ∙ counts-view r plens paths tlens trees L));
     }
   where
     view : Cache
     view = viewOf 20 r plens paths tlens trees
 
-stops-here : (T : Table) (e : walk.Edit) (opening b : Bool) (q n : Bytes) (t : Tree) (c : Cache) (u v : Counts) (s : Tree) → ((next : Next) → stepAs T e opening b q n t c u next .kept ≡ next s v .kept) → isNil n ≡ false
-stops-here T e opening b q [] t c u v s h = no-way (sym (over-kept 1) ∙ h (λ (x : Tree) (y : Counts). record { code = 0; kept = false }))
+stops-here : (T : Table) (e : walk.Edit) (opening b : Bool) (q n : Bytes) (t : Tree) (c : Cache) (u v : Counts) (s : Tree) → ((next : Next) → stepAs T e opening b q n t c u next ≡ next s v) → isNil n ≡ false
+stops-here T e opening b q [] t c u v s h = no-way (sym (over-kept 1) ∙ ap (λ (z : Measured). z .kept) (h (λ (x : Tree) (y : Counts). record { code = 0; kept = false })))
 stops-here T e opening b q (x ∷ n) t c u v s h = refl
 
-module _ {T : Table} {e : walk.Edit} {opening : Bool} {c : Cache} {tlens trees : List ℕ} {raws whole : Bytes} {goal : Bool} {p : Bytes} {level : Level} {u : Counts}
+module _ {T : Table} {e : walk.Edit} {opening : Bool} {c : Cache} {tlens trees : List ℕ} {raws whole : Bytes} {goal : Measured} {p : Bytes} {level : Level} {u : Counts}
     (s : Measuring T e opening c tlens trees raws whole goal p level u) {k : ℕ} (ek : k ≡ length (firstPiece p)) {b : Bool} (eb : b ≡ eqb k (length p))
     {end : ℕ} (ee : end ≡ length whole - length p + k) {below name : Bytes} (ew : below ≡ take end whole) (en : name ≡ take k p) {d : Cache} (ed : d ≡ c)
-    {g : Gauge} (gi : GaugeIs tlens trees raws (stepAs T e opening b below name (s .tree) d u) g) where
+    {g : MeasureStep} (gi : StepIs tlens trees raws (stepAs T e opening b below name (s .tree) d u) g) where
   abbrev q : Bytes
   q = join (s .so-far) (take k p)
 
   abbrev rest-of : Next
   rest-of t v = measured sha1 T e opening (restOf b p k) q t c v
 
-  step : goal ≡ stepAs T e opening b q (take k p) (s .tree) c u rest-of .kept
+  step : goal ≡ stepAs T e opening b q (take k p) (s .tree) c u rest-of
   step =
-      s .rest ∙ ap (λ (ns : List Bytes). measured sha1 T e opening ns (s .so-far) (s .tree) c u .kept) (pieces-are p k ek b eb)
-      ∙ ap (λ (z : Bool). pickMeasured (isNil (take k p)) (over 1) (onSight sha1 T e opening q (find at q c) rest-of (seen z e (take k p) u (entryOf (take k p) (s .tree)))) .kept) (rest-nil b p k)
+      s .rest ∙ ap (λ (ns : List Bytes). measured sha1 T e opening ns (s .so-far) (s .tree) c u) (pieces-are p k ek b eb)
+      ∙ ap (λ (z : Bool). pickMeasured (isNil (take k p)) (over 1) (onSight sha1 T e opening q (find at q c) rest-of (seen z e (take k p) u (entryOf (take k p) (s .tree))))) (rest-nil b p k)
 
-  gauged : GaugeIs tlens trees raws (stepAs T e opening b q (take k p) (s .tree) c u) g
-  gauged =
-      subst (λ (z : Bytes). GaugeIs tlens trees raws (stepAs T e opening b z (take k p) (s .tree) c u) g) (ew ∙ front-here (s .front) k end (piece-short p k ek) ee)
-      (subst (λ (z : Bytes). GaugeIs tlens trees raws (stepAs T e opening b below z (s .tree) c u) g) en (subst (λ (z : Cache). GaugeIs tlens trees raws (stepAs T e opening b below name (s .tree) z u) g) ed gi))
+  stepped : StepIs tlens trees raws (stepAs T e opening b q (take k p) (s .tree) c u) g
+  stepped =
+      subst (λ (z : Bytes). StepIs tlens trees raws (stepAs T e opening b z (take k p) (s .tree) c u) g) (ew ∙ front-here (s .front) k end (piece-short p k ek) ee)
+      (subst (λ (z : Bytes). StepIs tlens trees raws (stepAs T e opening b below z (s .tree) c u) g) en (subst (λ (z : Cache). StepIs tlens trees raws (stepAs T e opening b below name (s .tree) z u) g) ed gi))
 
-  last-kept : b ≡ true → (t : Tree) (v : Counts) → rest-of t v .kept ≡ true
-  last-kept h t v = ap (λ (z : Bool). measured sha1 T e opening (restOf z p k) q t c v .kept) h ∙ over-kept 0
+  last-over : b ≡ true → (t : Tree) (v : Counts) → rest-of t v ≡ over 0
+  last-over h t v = ap (λ (z : Bool). measured sha1 T e opening (restOf z p k) q t c v) h
 
-  pub measure-over : (not (g .kept) || (not (g .going) || b)) ≡ true → g .kept ≡ goal
+  stopped : g .kept ≡ true → goal ≡ over (codeNumber (g .code)) → MeasuredAs goal (record { code = g .code; kept = g .kept })
+  stopped a h =
+      record {
+        kept = a ∙ sym (ap (λ (z : Measured). z .kept) h ∙ over-kept (codeNumber (g .code)));
+        code = λ y. sym (ap (λ (z : Measured). z .code) h ∙ over-code (codeNumber (g .code)));
+        past = λ y. no-way (sym a ∙ y);
+      }
+
+  pub measure-over : (not (g .kept) || (not (g .going) || b)) ≡ true → MeasuredAs goal (record { code = g .code; kept = g .kept })
   measure-over h = go (g .kept) (g .going) refl refl h
     where
-      go : (x y : Bool) → g .kept ≡ x → g .going ≡ y → (not x || (not y || b)) ≡ true → g .kept ≡ goal
-      go false y a z h = a ∙ sym (step ∙ gauged .past a rest-of)
-      go true false a z h = a ∙ sym (step ∙ gauged .stop a z rest-of)
+      go : (x y : Bool) → g .kept ≡ x → g .going ≡ y → (not x || (not y || b)) ≡ true → MeasuredAs goal (record { code = g .code; kept = g .kept })
+      go false y a z h =
+          record {
+            kept = a ∙ sym (ap (λ (w : Measured). w .kept) step ∙ stepped .past a .1 rest-of);
+            code = λ w. no-way (sym w ∙ a);
+            past = λ w. stepped .past a .0;
+          }
+      go true false a z h = stopped a (step ∙ stepped .stop a z rest-of)
       go true true a z h =
-          let f = gauged .on a z in
-          a ∙ sym (step ∙ f .3 rest-of ∙ last-kept h (f .0) (countsAs (g .counts)))
+          let f = stepped .on a z in
+          stopped a (step ∙ f .3 rest-of ∙ last-over h (f .0) (countsAs (g .counts)) ∙ sym (ap over (stepped .done a z)))
 
   module _ (h : (not (g .kept) || (not (g .going) || b)) ≡ false) where
     parts : (x y z : Bool) → (not x || (not y || z)) ≡ false → (x ≡ true) × (y ≡ true) × (z ≡ false)
@@ -339,7 +373,7 @@ module _ {T : Table} {e : walk.Edit} {opening : Bool} {c : Cache} {tlens trees :
     pub measure-next : {p′ : Bytes} → p′ ≡ drop (k + 1) p → Measuring T e opening c tlens trees raws whole goal p′ (g .level) (countsAs (g .counts))
     measure-next {p′} ep =
         let y = parts (g .kept) (g .going) b h in
-        let f = gauged .on (y .0) (y .1) in
+        let f = stepped .on (y .0) (y .1) in
         let j = measure-shorter in
         let n = stops-here T e opening b q (take k p) (s .tree) c u (countsAs (g .counts)) (f .0) (f .3) in
         subst (λ (z : Bytes). Measuring T e opening c tlens trees raws whole goal z (g .level) (countsAs (g .counts))) (sym ep) (record {
@@ -348,5 +382,5 @@ module _ {T : Table} {e : walk.Edit} {opening : Bool} {c : Cache} {tlens trees :
           room = f .2;
           so-far = q;
           front = front-next (s .front) k j (piece-slash p k ek j) n;
-          rest = step ∙ f .3 rest-of ∙ ap (λ (z : Bool). measured sha1 T e opening (restOf z p k) q (f .0) c (countsAs (g .counts)) .kept) (y .2);
+          rest = step ∙ f .3 rest-of ∙ ap (λ (z : Bool). measured sha1 T e opening (restOf z p k) q (f .0) c (countsAs (g .counts))) (y .2);
         })

@@ -25,9 +25,10 @@ use Rattle.model.proofs.LimitLaws.{fits-of}
 use Rattle.store_slots.specs.declared.Record.{Record}
 use Rattle.store_slots.specs.View.{viewOf, Laid, Used, pathOf}
 use Rattle.store_slots.proofs.Relaid.{find-slot}
-use Rattle.editor_terms.specs.declared.code.Code.the-variants.{NoRoom}
+use Rattle.editor_walk.specs.Levels.{MeasuredAs}
 use Rattle.editor_walk.specs.Steps.{WalkedAs, editorAt, SettledAs}
 use Rattle.editor_walk.specs.declared.apply.Answer.{Answer}
+use Rattle.editor_walk.specs.declared.measure.Measured.{Measured}
 use Rattle.editor_walk.proofs.DownLaws.{same-write}
 
 -- a path that is not refused is short
@@ -53,22 +54,22 @@ module _ (T : Table) (e : Edit) (opening : Bool) (r : Record) (plens paths tlens
   there : isSome (find at q c) ≡ true
   there = ap (λ (o : Option Held). isSome o) (find-slot 20 r plens paths tlens trees L slot (U .low) (U .used))
 
-  module _ {b : Bool} (eb : b ≡ measure sha1 T e opening q path c .kept) where
-    pub kept-is : b ≡ w .kept
-    kept-is = eb ∙ measure-kept sha1 T e opening q path c v there
+  module _ {m : Measured} (em : MeasuredAs (measure sha1 T e opening q path c) m) where
+    pub kept-is : m .kept ≡ w .kept
+    kept-is = em .kept ∙ measure-kept sha1 T e opening q path c v there
 
-    pub settle-none : b ≡ false → SettledAs r plens paths tlens trees (settled (editorAt c) w) (record { code = NoRoom; ed = r }) plens paths tlens trees
+    pub settle-none : m .kept ≡ false → SettledAs r plens paths tlens trees (settled (editorAt c) w) (record { code = m .code; ed = r }) plens paths tlens trees
     unfolding settled refuseIf
     settle-none f =
         let k : w .kept ≡ false = sym kept-is ∙ f in
         record {
-          code = sym (ap (λ (z : Bool). refuseIf (not z) 5 (editorAt c) (record { code = w .code; editor = editorAt (w .now) }) .code) k);
+          code = em .past f ∙ sym (ap (λ (z : Bool). refuseIf (not z) 5 (editorAt c) (record { code = w .code; editor = editorAt (w .now) }) .code) k);
           now = sym (ap (λ (z : Bool). refuseIf (not z) 5 (editorAt c) (record { code = w .code; editor = editorAt (w .now) }) .editor) k);
           stand = record { laid = L; closed = cl; write = same-write r };
           same = λ h. (refl, refl, refl, refl, refl);
         }
 
-    pub settle-walk : b ≡ true → {a : Answer} {plens′ paths′ tlens′ trees′ : List ℕ} → WalkedAs r w a plens′ paths′ tlens′ trees′ → SettledAs r plens paths tlens trees (settled (editorAt c) w) a plens′ paths′ tlens′ trees′
+    pub settle-walk : m .kept ≡ true → {a : Answer} {plens′ paths′ tlens′ trees′ : List ℕ} → WalkedAs r w a plens′ paths′ tlens′ trees′ → SettledAs r plens paths tlens trees (settled (editorAt c) w) a plens′ paths′ tlens′ trees′
     unfolding settled refuseIf
     settle-walk t d =
         let k : w .kept ≡ true = sym kept-is ∙ t in

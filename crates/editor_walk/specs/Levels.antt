@@ -27,7 +27,8 @@ use Rattle.editor_walk.specs.declared.land.Landing.{Landing}
 use Rattle.editor_walk.specs.declared.land.Landing.the-variants.{There, Fresh, Load, Halt}
 use Rattle.editor_walk.specs.declared.measure.Level.{Level}
 use Rattle.editor_walk.specs.declared.measure.Level.the-variants.{Slot, Raw, Empty}
-use Rattle.editor_walk.specs.declared.measure.Gauge.{Gauge}
+use Rattle.editor_walk.specs.declared.measure.Measured.{Measured as Answer}
+use Rattle.editor_walk.specs.declared.measure.MeasureStep.{MeasureStep}
 
 -- the trees of the slots can be searched
 pub record Stored (used : ℕ) (tlens trees : List ℕ) : Type 0 where
@@ -46,23 +47,31 @@ Stands tlens trees raws Empty t = t ≡ []
 pub record SeenAt (tlens trees : List ℕ) (raws : Bytes) (level : Level) (name : Bytes) (r : Seen) : Type 0 where
   pub is : (t : Tree) → Stands tlens trees raws level t → seenAs r ≡ partsOf (entryOf name t)
 
--- g says of a step how the measure goes on: whatever comes after it, a limit is passed; or the walk stops and all is kept; or what comes after it decides,
--- from the tree at its level and its counts, which are within the limits
-pub record GaugeIs (tlens trees : List ℕ) (raws : Bytes) (m : (Tree → Counts → Measured) → Measured) (g : Gauge) : Type 0 where
-  pub past : g .kept ≡ false → (next : Tree → Counts → Measured) → m next .kept ≡ false
-  pub stop : g .kept ≡ true → g .going ≡ false → (next : Tree → Counts → Measured) → m next .kept ≡ true
+-- g says of a step how the measure goes on: whatever comes after it, a limit is passed, and the number is 5; or the walk stops with the number and all is
+-- kept; or what comes after it decides, from the tree at its level and its counts, which are within the limits
+pub record StepIs (tlens trees : List ℕ) (raws : Bytes) (m : (Tree → Counts → Measured) → Measured) (g : MeasureStep) : Type 0 where
+  pub past : g .kept ≡ false → (codeNumber (g .code) ≡ 5) × ((next : Tree → Counts → Measured) → m next .kept ≡ false)
+  pub stop : g .kept ≡ true → g .going ≡ false → (next : Tree → Counts → Measured) → m next ≡ over (codeNumber (g .code))
   pub on : g .kept ≡ true → g .going ≡ true → (t : Tree) × Stands tlens trees raws (g .level) t × (within (countsAs (g .counts)) ≡ true)
-      × ((next : Tree → Counts → Measured) → m next .kept ≡ next t (countsAs (g .counts)) .kept)
+      × ((next : Tree → Counts → Measured) → m next ≡ next t (countsAs (g .counts)))
+  pub done : g .kept ≡ true → g .going ≡ true → codeNumber (g .code) ≡ 0
 
--- the walk is over
-pub record EndsAs (b : Bool) (g : Gauge) : Type 0 where
+-- r is what the model's measure m says: whether the limits are kept, and the number that the edit ends with, which is 5 where they are not
+pub record MeasuredAs (m : Measured) (r : Answer) : Type 0 where
+  pub kept : r .kept ≡ m .kept
+  pub code : r .kept ≡ true → codeNumber (r .code) ≡ m .code
+  pub past : r .kept ≡ false → codeNumber (r .code) ≡ 5
+
+-- the walk is over, with the number k
+pub record EndsAs (k : ℕ) (b : Bool) (g : MeasureStep) : Type 0 where
+  pub code : codeNumber (g .code) ≡ k
   pub kept : g .kept ≡ b
   pub going : g .going ≡ false
 
 -- a tree of so many entries and name bytes is to be cached, at a path of n bytes, from the counts u
-pub record CachesAs (level : Level) (entries names n : ℕ) (u : Counts) (g : Gauge) : Type 0 where
+pub record CachesAs (level : Level) (entries names n : ℕ) (u : Counts) (g : MeasureStep) : Type 0 where
   pub is : (tlens trees : List ℕ) (raws q : Bytes) (t : Tree) → n ≡ length q → entries ≡ length t → names ≡ nameBytes t → Stands tlens trees raws level t →
-      GaugeIs tlens trees raws (λ next. counted (plusTree q t u) (next t (plusTree q t u))) g
+      StepIs tlens trees raws (λ next. counted (plusTree q t u) (next t (plusTree q t u))) g
 
 -- what the code's answer says of the model's landing
 abbrev pub LandIs : List ℕ → List ℕ → Bytes → Bytes → Counts → Landing → measure.Landing → Type 0
@@ -71,8 +80,8 @@ LandIs tlens trees raws q u Fresh l = l ≡ lands [] (plusTree q [] u)
 LandIs tlens trees raws q u (Load r) l = (t : Tree) × RawIs raws r t × (l ≡ lands t (plusTree q t u))
 LandIs tlens trees raws q u (Halt code) l = l ≡ halts (codeNumber code)
 
-pub record LandedAs (x : Landing) (n : ℕ) (u : Counts) (g : Gauge) : Type 0 where
-  pub is : (tlens trees : List ℕ) (raws q : Bytes) (l : measure.Landing) → n ≡ length q → LandIs tlens trees raws q u x l → GaugeIs tlens trees raws (λ next. onLanding next u l) g
+pub record LandedAs (x : Landing) (n : ℕ) (u : Counts) (g : MeasureStep) : Type 0 where
+  pub is : (tlens trees : List ℕ) (raws q : Bytes) (l : measure.Landing) → n ≡ length q → LandIs tlens trees raws q u x l → StepIs tlens trees raws (λ next. onLanding next u l) g
 
 -- the model's step down to q, and its whole step at the name n in the tree t, from what measures the rest; c is the cache
 abbrev pub downAs : Table → Edit → Bytes → Option Bytes → Cache → Counts → (Tree → Counts → Measured) → Measured

@@ -15,8 +15,8 @@ use Rattle.editor_terms.specs.Ids.{idBytes}
 use Rattle.editor_terms.specs.Answers.{codeNumber}
 use Rattle.editor_walk.specs.declared.look.Looked.{Looked}
 use Rattle.editor_walk.specs.declared.look.Looked.the-variants.{Found, Missing, Refused}
-use Rattle.editor_walk.specs.declared.look.Next.{Next}
-use Rattle.editor_walk.specs.declared.look.Next.the-variants.{Over, In}
+use Rattle.editor_walk.specs.declared.look.LookStep.{LookStep}
+use Rattle.editor_walk.specs.declared.look.LookStep.the-variants.{Over, In}
 
 -- the model's answer; the entry that is found has this name
 abbrev pub lookedAs : Bytes → Looked → model.Looked
@@ -29,7 +29,7 @@ abbrev pub stepLook : List ℕ → List Bytes → Tree → Bytes → Bytes → B
 stepLook ds ps t q n isLast bs rest = model.lookOn isLast (isSome (find at q (gather (slotsOf 20 ds ps bs)))) rest (entryOfLookup n t)
 
 -- the lookup is over with this answer, or goes on in the slot of the path below; ds and ps are the digits and the paths of the cached slots, whose trees do not matter
-abbrev pub NextIs : List ℕ → List Bytes → Tree → Bytes → Bytes → Bool → Next → Type 0
-NextIs ds ps t q n isLast (Over r) = (bs : List Bytes) → length bs ≡ 64 → (m : Bytes) → (isLast ≡ true → m ≡ n) → (rest : model.Looked) → lookedAs m r ≡ stepLook ds ps t q n isLast bs rest
-NextIs ds ps t q n isLast (In s) =
+abbrev pub LookStepIs : List ℕ → List Bytes → Tree → Bytes → Bytes → Bool → LookStep → Type 0
+LookStepIs ds ps t q n isLast (Over r) = (bs : List Bytes) → length bs ≡ 64 → (m : Bytes) → (isLast ≡ true → m ≡ n) → (rest : model.Looked) → lookedAs m r ≡ stepLook ds ps t q n isLast bs rest
+LookStepIs ds ps t q n isLast (In s) =
     (isLast ≡ false) × (s < 64) × (getD ds s 0 ≡ 0) × (getD ps s [] ≡ q) × (isNil n ≡ false) × ((bs : List Bytes) → length bs ≡ 64 → (rest : model.Looked) → rest ≡ stepLook ds ps t q n isLast bs rest)

@@ -333,7 +333,7 @@ pub fn settle(
         (walked sha1 (tableOf (now (ids .entry)) (now (ends .entry)) (now (raws .entry))) (asEdit edit) opening (components (now (path .entry))) (pathOf (now (plens .entry)) (now (paths .entry)) slot)
         (viewOf 20 ed (now (plens .entry)) (now (paths .entry)) (now (tlens .entry)) (now (trees .entry))))) a (now (plens .exit)) (now (paths .exit)) (now (tlens .exit)) (now (trees .exit)) ⌝ }
 {
-    let kept = crate::measure::measure(
+    let m = crate::measure::measure(
         ed,
         plens,
         paths,
@@ -348,11 +348,9 @@ pub fn settle(
         opening,
         slot,
     );
-    if !kept {
-        return Answer {
-            code: Code::NoRoom,
-            ed,
-        };
+    let code = m.code;
+    if !m.kept {
+        return Answer { code, ed };
     }
     walk(
         ed,

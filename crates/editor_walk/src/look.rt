@@ -10,7 +10,7 @@ ghost use Rattle.names_compact.specs.Compact.{unpack, Run};
 ghost use Rattle.store_runs.specs.Digits.{digits};
 ghost use Rattle.store_runs.specs.Runs.{cut, Sound};
 ghost use Rattle.store_slots.specs.View.{viewOf, Laid, Used, pathOf};
-ghost use Rattle.editor_walk.specs.Lookups.{lookedAs, NextIs};
+ghost use Rattle.editor_walk.specs.Lookups.{lookedAs, LookStepIs};
 use editor_terms::code::Code;
 use editor_terms::edit::Seen;
 use editor_terms::id::Id;
@@ -26,7 +26,7 @@ pub enum Looked {
 }
 
 // How a lookup goes on after a component: it is over, or goes on in a slot.
-pub enum Next {
+pub enum LookStep {
     Over(Looked),
     In(usize),
 }
@@ -40,22 +40,22 @@ fn look_in(
     below: &[u8],
     name: &[u8],
     last: bool,
-) -> Next
+) -> LookStep
     requires { ⌜ Sound (now plens) (now paths) (ed .paths) × (length (now plens) ≡ 64) × Run 20 (now tree) × (wellFormed 20 (unpack 20 (now tree)) ≡ true) × (has 47 (now name) ≡ false) ⌝ }
-    ensures { λ r. ⌜ NextIs (digits 64 (ed .hidden)) (cut (now (plens .entry)) (now (paths .entry))) (unpack 20 (now (tree .entry))) (now (below .entry)) (now (name .entry)) «last» r ⌝ }
+    ensures { λ r. ⌜ LookStepIs (digits 64 (ed .hidden)) (cut (now (plens .entry)) (now (paths .entry))) (unpack 20 (now (tree .entry))) (now (below .entry)) (now (name .entry)) «last» r ⌝ }
 {
     match crate::seen::seen_in(tree, name, true) {
-        Seen::Nothing => Next::Over(Looked::Missing),
+        Seen::Nothing => LookStep::Over(Looked::Missing),
         Seen::Entry(kind, id) => {
             if last {
-                return Next::Over(Looked::Found(kind, id));
+                return LookStep::Over(Looked::Found(kind, id));
             }
             if !names::mode::is_tree(kind) {
-                return Next::Over(Looked::Missing);
+                return LookStep::Over(Looked::Missing);
             }
             match store_slots::find(ed, plens, paths, below) {
-                Found::At(slot) => Next::In(slot),
-                Found::Nothing => Next::Over(Looked::Missing),
+                Found::At(slot) => LookStep::In(slot),
+                Found::Nothing => LookStep::Over(Looked::Missing),
             }
         }
     }
@@ -90,10 +90,10 @@ pub fn look(
         let below = names::part::front(full, end);
         let name = names::part::front(p, k);
         match look_in(ed, plens, paths, tree, below, name, last) {
-            Next::Over(r) => {
+            LookStep::Over(r) => {
                 return r;
             }
-            Next::In(s) => {
+            LookStep::In(s) => {
                 at = s;
             }
         }

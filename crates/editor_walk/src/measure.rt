@@ -1,4 +1,4 @@
-// The first pass of an edit: whether each of its steps keeps the limits. Changes nothing.
+// The first pass of an edit: its number, and whether each of its steps keeps the limits. Changes nothing.
 ghost use mathlib.Core.Path.{_≡_};
 ghost use mathlib.Core.Bool.{true, false, not, _||_};
 ghost use mathlib.Core.List.{List};
@@ -13,12 +13,14 @@ ghost use Rattle.model.specs.Table.{goodTable};
 ghost use Rattle.model.specs.Measure.{within as withinLimits, measure as measured};
 ghost use Rattle.store_runs.specs.Runs.{Sound};
 ghost use Rattle.store_slots.specs.View.{viewOf, cachedOf, Laid, Used, pathOf};
+ghost use Rattle.editor_terms.specs.Answers.{codeNumber};
 ghost use Rattle.editor_terms.specs.Edits.{asEdit, wantedBy};
 ghost use Rattle.editor_terms.specs.Objects.{tableOf};
 ghost use Rattle.editor_walk.specs.Counted.{countsAs};
-ghost use Rattle.editor_walk.specs.Levels.{Stored, Stands, SeenAt, GaugeIs, EndsAs, CachesAs, LandedAs, downAs, stepAs};
+ghost use Rattle.editor_walk.specs.Levels.{Stored, Stands, SeenAt, StepIs, EndsAs, CachesAs, LandedAs, MeasuredAs, downAs, stepAs};
 use crate::counts::Counts;
 use crate::land::Landing;
+use editor_terms::code::Code;
 use editor_terms::edit::Edit;
 use editor_terms::edit::Seen;
 use editor_terms::edit::Turn;
@@ -31,8 +33,15 @@ pub enum Level {
     Empty,
 }
 
-// What a step comes to: whether the limits are kept, and whether and where the walk goes on.
-pub struct Gauge {
+// What an edit comes to: its number, which is 5 where a step passes a limit, and whether each step keeps the limits.
+pub struct Measured {
+    pub code: Code,
+    pub kept: bool,
+}
+
+// What a step comes to: its number, whether the limits are kept, and whether and where the walk goes on.
+pub struct MeasureStep {
+    pub code: Code,
     pub kept: bool,
     pub going: bool,
     pub level: Level,
@@ -55,11 +64,12 @@ fn seen_at(used: usize, tlens: &[u64], trees: &[u8], raws: &[u8], level: Level, 
     }
 }
 
-// A step that ends the walk.
-fn ended(kept: bool, u: Counts) -> Gauge
-    ensures { λ g. ⌜ EndsAs kept g ⌝ }
+// A step that ends the walk with a number.
+fn ended(code: Code, kept: bool, u: Counts) -> MeasureStep
+    ensures { λ g. ⌜ EndsAs (codeNumber code) kept g ⌝ }
 {
-    Gauge {
+    MeasureStep {
+        code,
         kept,
         going: false,
         level: Level::Empty,
@@ -68,38 +78,43 @@ fn ended(kept: bool, u: Counts) -> Gauge
 }
 
 // A step down to a tree that is to be cached, of so many entries and bytes of names, at a path of n bytes.
-fn cached(level: Level, entries: usize, names: usize, n: usize, u: Counts) -> Gauge
+fn cached(level: Level, entries: usize, names: usize, n: usize, u: Counts) -> MeasureStep
     requires { ⌜ (withinLimits (countsAs u) ≡ true) × (n ≤ 1280) ⌝ }
     ensures { λ g. ⌜ CachesAs level entries names n (countsAs u) g ⌝ }
 {
     if 1024 < entries {
-        return ended(false, u);
+        return ended(Code::NoRoom, false, u);
     }
     if 16384 < names {
-        return ended(false, u);
+        return ended(Code::NoRoom, false, u);
     }
-    let v = crate::counts::with_tree(entries, names, n, u);
-    Gauge {
-        kept: crate::counts::within(v),
+    let w = crate::counts::with_tree(entries, names, n, u);
+    if !crate::counts::within(w) {
+        return ended(Code::NoRoom, false, w);
+    }
+    MeasureStep {
+        code: Code::Done,
+        kept: true,
         going: true,
         level,
-        counts: v,
+        counts: w,
     }
 }
 
 // A step that goes down to a path of n bytes.
-fn landed(landing: Landing, n: usize, u: Counts) -> Gauge
+fn landed(landing: Landing, n: usize, u: Counts) -> MeasureStep
     requires { ⌜ (withinLimits (countsAs u) ≡ true) × (n ≤ 1280) ⌝ }
     ensures { λ g. ⌜ LandedAs landing n (countsAs u) g ⌝ }
 {
     match landing {
-        Landing::There(slot) => Gauge {
+        Landing::There(slot) => MeasureStep {
+            code: Code::Done,
             kept: true,
             going: true,
             level: Level::Slot(slot),
             counts: u,
         },
-        Landing::Halt(_) => ended(true, u),
+        Landing::Halt(code) => ended(code, true, u),
         Landing::Fresh => cached(Level::Empty, 0, 0, n, u),
         Landing::Load(raw) => {
             let from = raw.from;
@@ -121,10 +136,10 @@ fn go_down(
     turn: Turn,
     edit: Edit,
     u: Counts,
-) -> Gauge
+) -> MeasureStep
     requires { ⌜ Sound (now plens) (now paths) (ed .paths) × (length (now plens) ≡ 64) × (goodTable 20 (tableOf (now ids) (now ends) (now raws)) ≡ true)
         × (withinLimits (countsAs u) ≡ true) × (length (now below) ≤ 1280) ⌝ }
-    ensures { λ g. ⌜ ((tlens trees : List ℕ) → length tlens ≡ 64 → GaugeIs tlens trees (now (raws .entry))
+    ensures { λ g. ⌜ ((tlens trees : List ℕ) → length tlens ≡ 64 → StepIs tlens trees (now (raws .entry))
         (downAs (tableOf (now (ids .entry)) (now (ends .entry)) (now (raws .entry))) (asEdit edit) (now (below .entry)) (wantedBy turn) (cachedOf 20 ed (now (plens .entry)) (now (paths .entry)) tlens trees) (countsAs u)) g) ⌝ }
 {
     let wanted = editor_terms::edit::wanted_by(turn);
@@ -150,27 +165,27 @@ fn step(
     opening: bool,
     level: Level,
     u: Counts,
-) -> Gauge
+) -> MeasureStep
     requires { ⌜ Sound (now plens) (now paths) (ed .paths) × (length (now plens) ≡ 64) × Stored (ed .trees) (now tlens) (now trees)
         × (goodTable 20 (tableOf (now ids) (now ends) (now raws)) ≡ true) × ((t : Tree) × Stands (now tlens) (now trees) (now raws) level t)
         × (has 47 (now name) ≡ false) × (length (now below) ≤ 1280) × (length (now name) ≤ 1280) × (withinLimits (countsAs u) ≡ true) ⌝ }
-    ensures { λ g. ⌜ ((t : Tree) → Stands (now (tlens .entry)) (now (trees .entry)) (now (raws .entry)) level t → GaugeIs (now (tlens .entry)) (now (trees .entry)) (now (raws .entry))
+    ensures { λ g. ⌜ ((t : Tree) → Stands (now (tlens .entry)) (now (trees .entry)) (now (raws .entry)) level t → StepIs (now (tlens .entry)) (now (trees .entry)) (now (raws .entry))
         (stepAs (tableOf (now (ids .entry)) (now (ends .entry)) (now (raws .entry))) (asEdit edit) opening «last» (now (below .entry)) (now (name .entry)) t
         (cachedOf 20 ed (now (plens .entry)) (now (paths .entry)) (now (tlens .entry)) (now (trees .entry))) (countsAs u)) g) ⌝ }
 {
     let n = name.len();
     if n == 0 {
-        return ended(true, u);
+        return ended(Code::EmptyComponent, true, u);
     }
     let nt = ed.trees;
     let seen = seen_at(nt, tlens, trees, raws, level, name);
     let turn = editor_terms::edit::turn_of(edit, last, seen);
     let v = crate::counts::turned(turn, seen, n, u);
     if !crate::counts::within(v) {
-        return ended(false, v);
+        return ended(Code::NoRoom, false, v);
     }
     if !editor_terms::edit::goes_down(turn, last, opening) {
-        return ended(true, v);
+        return ended(editor_terms::edit::end_code(turn), true, v);
     }
     go_down(ed, plens, paths, ids, ends, raws, below, turn, edit, v)
 }
@@ -188,7 +203,7 @@ fn is_over(kept: bool, going: bool, last: bool) -> bool
     last
 }
 
-// Whether each step of an edit keeps the limits, from the tree in a slot; `full` is that tree's path with the path.
+// The number of an edit, and whether each of its steps keeps the limits, from the tree in a slot; `full` is that tree's path with the path.
 pub fn measure(
     ed: Record,
     plens: &[u64],
@@ -203,14 +218,17 @@ pub fn measure(
     edit: Edit,
     opening: bool,
     slot: usize,
-) -> bool
+) -> Measured
     requires { ⌜ Laid 20 ed (now plens) (now paths) (now tlens) (now trees) × (ed .hidden ≡ ed .free) × (fits (viewOf 20 ed (now plens) (now paths) (now tlens) (now trees)) ≡ true)
         × (goodTable 20 (tableOf (now ids) (now ends) (now raws)) ≡ true) × Used ed slot × (now full ≡ fullPath (pathOf (now plens) (now paths) slot) (now path)) × (length (now full) ≤ 1280) ⌝ }
-    ensures { λ r. ⌜ r ≡ measured sha1 (tableOf (now (ids .entry)) (now (ends .entry)) (now (raws .entry))) (asEdit edit) opening (pathOf (now (plens .entry)) (now (paths .entry)) slot) (now (path .entry))
-        (viewOf 20 ed (now (plens .entry)) (now (paths .entry)) (now (tlens .entry)) (now (trees .entry))) .kept ⌝ }
+    ensures { λ r. ⌜ MeasuredAs (measured sha1 (tableOf (now (ids .entry)) (now (ends .entry)) (now (raws .entry))) (asEdit edit) opening (pathOf (now (plens .entry)) (now (paths .entry)) slot) (now (path .entry))
+        (viewOf 20 ed (now (plens .entry)) (now (paths .entry)) (now (tlens .entry)) (now (trees .entry)))) r ⌝ }
 {
     if path.len() == 0 {
-        return true;
+        return Measured {
+            code: Code::Done,
+            kept: true,
+        };
     }
     let mut p = path;
     let mut level = Level::Slot(slot);
@@ -238,9 +256,10 @@ pub fn measure(
             level,
             u,
         );
+        let code = g.code;
         let kept = g.kept;
         if is_over(kept, g.going, last) {
-            return kept;
+            return Measured { code, kept };
         }
         let l = g.level;
         level = l;

@@ -32,7 +32,7 @@ same-length-4 c = search needs
 
 returns : tie.Need-returns
 returns c =
-    let m = c .before in
+    let m = c .before .before in
     let s = m .before .before .before .before .before .before .before .before .before .before .before .before .before .before in
     let a = s .args in
     settle-none (tableOf (a .ids .now) (a .ends .now) (a .raws .now)) (asEdit (a .edit)) (a .opening) (a .ed) (a .plens .now) (a .paths .now) (a .tlens .now) (a .trees .now) (s .pre .0) (s .pre .1) (a .slot) (s .pre .2) (a .path .now) (s .pre .6) (m .measure .ensures) (not-true _ (c .if1 .taken))
@@ -40,7 +40,7 @@ returns c =
 walk-requires : tie.Need-walk-requires
 walk-requires c κs =
     let e = c .before .before .before .before in
-    let m = e .before in
+    let m = e .before .before in
     let s = m .before .before .before .before .before .before .before .before .before .before .before .before .before .before in
     let a = s .args in
     (s .pre .0, s .pre .1, s .pre .2, s .pre .3, s .pre .4, s .pre .5, sym (kept-is (tableOf (a .ids .now) (a .ends .now) (a .raws .now)) (asEdit (a .edit)) (a .opening) (a .ed) (a .plens .now) (a .paths .now) (a .tlens .now) (a .trees .now) (s .pre .0) (s .pre .1) (a .slot) (s .pre .2) (a .path .now) (s .pre .6) (m .measure .ensures)) ∙ not-false _ (e .if1 .left))
@@ -61,7 +61,7 @@ returns-2 : tie.Need-returns-2
 returns-2 c =
     let k = c .before .before .before .before .before .before .before .before in
     let e = k .before .before .before .before .before in
-    let m = e .before in
+    let m = e .before .before in
     let s = m .before .before .before .before .before .before .before .before .before .before .before .before .before .before in
     let a = s .args in
     settle-walk (tableOf (a .ids .now) (a .ends .now) (a .raws .now)) (asEdit (a .edit)) (a .opening) (a .ed) (a .plens .now) (a .paths .now) (a .tlens .now) (a .trees .now) (s .pre .0) (s .pre .1) (a .slot) (s .pre .2) (a .path .now) (s .pre .6) (m .measure .ensures) (not-false _ (e .if1 .left)) (k .walk .ensures)

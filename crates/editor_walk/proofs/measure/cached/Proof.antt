@@ -1,5 +1,7 @@
 -- `editor_walk::measure::cached` meets its contract: a tree over a limit by itself passes it, and the counts decide otherwise. Assumes nothing.
-use Rattle.editor_walk.proofs.MeasureLaws.{cached-entries, cached-names, cached-on}
+use mathlib.Core.Path.{sym, _∙_}
+use Rattle.model.proofs.Basics.{not-true, not-false}
+use Rattle.editor_walk.proofs.MeasureLaws.{cached-entries, cached-names, cached-past, cached-on}
 use borrow.Author.Needs.{needs}
 use Rattle.editor_walk.proofs.measure.cached.Statement.{statement}
 use Rattle.editor_walk.proofs.measure.cached.Tie as tie
@@ -24,10 +26,21 @@ with-tree-requires c κs = search needs
 within-requires : tie.Need-within-requires
 within-requires c κs = search needs
 
+ended-requires-3 : tie.Need-ended-requires-3
+ended-requires-3 c κs = search needs
+
 returns-3 : tie.Need-returns-3
 returns-3 c =
-    let v = c .before in
-    cached-on (v .with-tree .result) (c .within .result) (c .within .ensures) (v .with-tree .ensures)
+    let i = c .before in
+    let w = i .before in
+    let v = w .before in
+    cached-past (v .with-tree .result) (v .with-tree .ensures) (sym (w .within .ensures) ∙ not-true _ (i .if3 .taken)) (c .ended3 .ensures)
+
+returns-4 : tie.Need-returns-4
+returns-4 c =
+    let w = c .before in
+    let v = w .before in
+    cached-on (v .with-tree .result) (v .with-tree .ensures) (sym (w .within .ensures) ∙ not-false _ (c .if3 .left))
 
 pub cached-spec : {M : Type 1} → statement M
 cached-spec =
@@ -39,4 +52,6 @@ cached-spec =
     returns-2
     with-tree-requires
     within-requires
-    returns-3)
+    ended-requires-3
+    returns-3
+    returns-4)

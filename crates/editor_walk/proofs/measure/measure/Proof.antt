@@ -22,7 +22,7 @@ use Rattle.editor_walk.proofs.measure.measure.Tie as tie
 abbrev Inv-loop : tie.InvT-loop
 Inv-loop ed plens paths tlens trees ids ends raws full path edit opening slot p₀ level₀ u₀ p level u =
     Measuring (tableOf ids ends raws) (asEdit edit) opening (viewOf 20 ed plens paths tlens trees) tlens trees raws full
-    (model.measure sha1 (tableOf ids ends raws) (asEdit edit) opening (pathOf plens paths slot) path (viewOf 20 ed plens paths tlens trees) .kept) p level (countsAs u)
+    (model.measure sha1 (tableOf ids ends raws) (asEdit edit) opening (pathOf plens paths slot) path (viewOf 20 ed plens paths tlens trees)) p level (countsAs u)
 
 abbrev μ-loop : tie.MeasureT-loop
 μ-loop ed plens paths tlens trees ids ends raws full path edit opening slot p₀ level₀ u₀ p level u = length p

@@ -46,12 +46,16 @@ returns-2 c =
 goes-down-requires : tie.Need-goes-down-requires
 goes-down-requires c κs = search needs
 
+end-code-requires : tie.Need-end-code-requires
+end-code-requires c κs = search needs
+
 ended-requires-3 : tie.Need-ended-requires-3
 ended-requires-3 c κs = search needs
 
 returns-3 : tie.Need-returns-3
 returns-3 c =
-    let gd = c .before .before in
+    let ec = c .before in
+    let gd = ec .before .before in
     let e2 = gd .before in
     let w = e2 .before in
     let tn = w .before in
@@ -59,7 +63,7 @@ returns-3 c =
     let sa = tf .before in
     let e1 = sa .before in
     let s = e1 .before .before .before .before .before .before .before .before .before .before in
-    λ t h. step-stop (tableOf (s .args .ids .now) (s .args .ends .now) (s .args .raws .now)) (s .args .edit) (s .args .opening) (s .args .last) (s .args .below .now) (s .args .name .now) (cachedOf 20 (s .args .ed) (s .args .plens .now) (s .args .paths .now) (s .args .tlens .now) (s .args .trees .now)) (countsAs (s .args .u)) (sa .seen-at .result) (tf .turn-of .result) (tf .turn-of .ensures) t (sa .seen-at .ensures .is t h) (e1 .if1 .left) (countsAs (tn .turned .result)) (tn .turned .ensures (s .args .name .now) refl) (sym (w .within .ensures) ∙ not-false _ (e2 .if2 .left)) (sym (gd .goes-down .ensures (s .args .name .now) t) ∙ not-true _ (c .before .if3 .taken)) (c .ended3 .ensures)
+    λ t h. step-stop (tableOf (s .args .ids .now) (s .args .ends .now) (s .args .raws .now)) (s .args .edit) (s .args .opening) (s .args .last) (s .args .below .now) (s .args .name .now) (cachedOf 20 (s .args .ed) (s .args .plens .now) (s .args .paths .now) (s .args .tlens .now) (s .args .trees .now)) (countsAs (s .args .u)) (sa .seen-at .result) (tf .turn-of .result) (tf .turn-of .ensures) t (sa .seen-at .ensures .is t h) (e1 .if1 .left) (countsAs (tn .turned .result)) (tn .turned .ensures (s .args .name .now) refl) (sym (w .within .ensures) ∙ not-false _ (e2 .if2 .left)) (sym (gd .goes-down .ensures (s .args .name .now) t) ∙ not-true _ (ec .before .if3 .taken)) (ec .end-code .ensures) (c .ended3 .ensures)
 
 go-down-requires : tie.Need-go-down-requires
 go-down-requires c κs =
@@ -97,6 +101,7 @@ step-spec =
     ended-requires-2
     returns-2
     goes-down-requires
+    end-code-requires
     ended-requires-3
     returns-3
     go-down-requires
