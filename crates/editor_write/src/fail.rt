@@ -23,7 +23,7 @@ fn fail_held(
     ensures { λ q. ⌜ Made failed (lent ed (now (plens .entry)) (now (paths .entry)) (now (tlens .entry)) (now (trees .entry)) (now (order .entry)))
         (lent q (now (plens .exit)) (now (paths .exit)) (now (tlens .exit)) (now (trees .exit)) (now (order .entry))) ⌝ }
 {
-    let start = store_taken::start(ed, order);
+    let start = store_slots::start(ed, order);
     let one = store_taken::drop_others(ed, plens, paths, tlens, trees, 20, start);
     store_taken::close(one)
 }

@@ -11,19 +11,18 @@ use Rattle.editor_write.proofs.fail.fail_held.Reads as reads
 use Rattle.editor_write.proofs.fail.fail_held.Lts as lts
 use Rattle.store_taken.proofs.close.Reads as close-reads
 use Rattle.store_taken.proofs.drop_others.Reads as drop-others-reads
-use Rattle.store_taken.proofs.start.Reads as start-reads
+use Rattle.store_slots.proofs.start.Reads as start-reads
 
 start-requires : tie.Need-start-requires
 start-requires c κs =
-    let s = c .before .before .before .before .before in
-    asked-in-hand (s .args .ed) (s .args .order .now) (s .pre .0 .ordered) (s .pre .1)
+    c .before .before .before .before .before .pre .0 .ordered .order-64
 
 drop-others-requires : tie.Need-drop-others-requires
 drop-others-requires c κs =
     let t = c .before .before .before .before in
     let s = t .before .before .before .before .before .before in
     let a = s .args in
-    (laid-20 (lent (a .ed) (a .plens .now) (a .paths .now) (a .tlens .now) (a .trees .now) (a .order .now)) (s .pre .0), omega arith, (a .order .now, a .ed .asked ∷ [], asked-in-hand (a .ed) (a .order .now) (s .pre .0 .ordered) (s .pre .1), t .start .ensures .1))
+    (laid-20 (lent (a .ed) (a .plens .now) (a .paths .now) (a .tlens .now) (a .trees .now) (a .order .now)) (s .pre .0), omega arith, (a .order .now, a .ed .asked ∷ [], asked-in-hand (a .ed) (a .order .now) (s .pre .0 .ordered) (s .pre .1), t .start .ensures .1 .0))
 
 returns : tie.Need-returns
 returns c =
