@@ -17,7 +17,7 @@ use Rattle.model.proofs.Basics.{no-way, and-right, not-true}
 use Rattle.store_runs.specs.Digits.{digits}
 use Rattle.store_slots.specs.View.{Laid, Used, pathOf, treeOf, heldAt, asideOf, stackedOf}
 use Rattle.store_slots.specs.declared.Record.{Record}
-use Rattle.store_slots.proofs.Calls.{tree-size}
+use Rattle.store_slots.proofs.Changes.{tree-size}
 use Rattle.store_entries.specs.Entries.{Edited}
 use Rattle.store_taken.specs.Taken.{goingOf, Between}
 use Rattle.store_taken.proofs.Ends.{dropped-going}

@@ -22,7 +22,7 @@ use Rattle.store_runs.specs.Find.{findFrom}
 use Rattle.store_runs.specs.declared.runs.Found.{Found}
 use Rattle.store_runs.specs.declared.runs.Found.the-variants.{At, Nothing}
 use Rattle.store_runs.proofs.DigitLaws.{length-digits}
-use Rattle.store_runs.proofs.Laws.{length-cut}
+use Rattle.store_runs.proofs.RunLaws.{length-cut}
 use Rattle.store_slots.specs.View.{ifUsed, heldIn, slotsOf, SlotIs, Laid, Used, SameWrite, pathOf, treeOf, heldAt, cachedOf, asideOf, stackedOf, allDifferent}
 use Rattle.store_slots.proofs.Where.{slot-is}
 use Rattle.store_slots.specs.declared.Record.{Record}

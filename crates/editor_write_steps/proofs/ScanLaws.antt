@@ -21,7 +21,7 @@ use Rattle.names_compact.proofs.CompactLaws.{Walked, walk-begin, walk-end, walk
 use Rattle.store_runs.specs.Digits.{digits}
 use Rattle.store_runs.specs.Runs.{cut}
 use Rattle.store_runs.proofs.DigitLaws.{length-digits}
-use Rattle.store_runs.proofs.Laws.{length-cut}
+use Rattle.store_runs.proofs.RunLaws.{length-cut}
 use Rattle.store_runs.specs.declared.runs.Found.{Found}
 use Rattle.store_runs.specs.declared.runs.Found.the-variants.{At, Nothing}
 use Rattle.store_slots.specs.View.{heldIn, Laid, SlotIs, heldAt, cachedOf}

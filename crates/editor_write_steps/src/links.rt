@@ -11,7 +11,7 @@ ghost use Rattle.store_slots.specs.View.{Laid, Used, SameWrite, pathOf, viewOf}
 ghost use Rattle.store_taken.specs.Taken.{goingOf, Between};
 ghost use Rattle.editor_write_steps.specs.Writes.{unlinkedOn, linkedOn, Child};
 use names::mode::EntryKind;
-use store_runs::runs::Found;
+use store_slots::Found;
 use store_slots::Record;
 
 // The slot of the tree that the tree in a slot lies below.
@@ -20,10 +20,8 @@ fn parent_of(r: Record, plens: &[u64], paths: &[u8], slot: usize) -> usize
         × ((j : ℕ) × Used r j × (pathOf (now plens) (now paths) j ≡ dir (pathOf (now plens) (now paths) slot))) ⌝ }
     ensures { λ k. ⌜ Used r k × (pathOf (now (plens .entry)) (now (paths .entry)) k ≡ dir (pathOf (now (plens .entry)) (now (paths .entry)) slot)) ⌝ }
 {
-    let map = r.free;
-    let np = r.paths;
-    let path = names::path::parent(store_runs::runs::run(plens, paths, np, slot));
-    match store_runs::runs::find(map, plens, paths, np, path) {
+    let path = names::path::parent(store_slots::path_in(r, plens, paths, slot));
+    match store_slots::find_used(r, plens, paths, path) {
         Found::At(k) => k,
         Found::Nothing => slot,
     }
@@ -46,9 +44,8 @@ fn remove_entry(
     ensures laid { λ q. ⌜ Laid width q (now (plens .entry)) (now (paths .entry)) (now (tlens .exit)) (now (trees .exit)) ⌝ }
     ensures same { λ q. ⌜ SameWrite r q ⌝ }
 {
-    let np = r.paths;
     let k = parent_of(r, plens, paths, slot);
-    let name = names::path::filename(store_runs::runs::run(plens, paths, np, slot));
+    let name = names::path::filename(store_slots::path_in(r, plens, paths, slot));
     store_entries::remove(r, plens, paths, tlens, trees, width, k, name)
 }
 
@@ -92,9 +89,8 @@ fn set_entry(
     ensures laid { λ q. ⌜ Laid width q (now (plens .entry)) (now (paths .entry)) (now (tlens .exit)) (now (trees .exit)) ⌝ }
     ensures same { λ q. ⌜ SameWrite r q ⌝ }
 {
-    let np = r.paths;
     let k = parent_of(r, plens, paths, slot);
-    let name = names::path::filename(store_runs::runs::run(plens, paths, np, slot));
+    let name = names::path::filename(store_slots::path_in(r, plens, paths, slot));
     store_entries::set(
         r,
         plens,

@@ -15,7 +15,8 @@ ghost use Rattle.store_slots.specs.View.{Laid, heldAt, pathOf, cachedOf};
 ghost use Rattle.store_taken.specs.Taken.{goingOf, Between};
 ghost use Rattle.names.specs.Fronts.{lead};
 ghost use Rattle.editor_write_steps.specs.Writes.{kidOn, scannedOn, Stacks};
-use store_runs::runs::Found;
+use names::limits::FULL;
+use store_slots::Found;
 use store_slots::Record;
 
 // Takes the cached tree at a path off the cache and stacks it, if the path is a tree entry's and one is cached there.
@@ -44,7 +45,7 @@ fn take_kid(
 }
 
 // Writes the name of the entry i, which starts at `at`, behind the n bytes that the buffer has, and says how long the whole is.
-fn put_name(buf: &mut [u8; 1280], n: usize, tree: &[u8], width: usize, at: usize, i: usize) -> usize
+fn put_name(buf: &mut [u8; FULL], n: usize, tree: &[u8], width: usize, at: usize, i: usize) -> usize
     requires { ⌜ Run width (now tree) × (at ≡ offset width (now tree) i) × (i < length (unpack width (now tree))) × (n ≤ 1025) ⌝ }
     ensures { λ e. ⌜ (e ≤ 1280) × (length (now (buf .exit)) ≡ 1280) × ((p : Bytes) → take n (now (buf .entry)) ≡ lead p →
         (take e (now (buf .exit)) ≡ join p (entryAt width (now (tree .entry)) i .name)) × (take n (now (buf .exit)) ≡ lead p)) ⌝ }
@@ -71,7 +72,7 @@ fn scan_entries(
     ensures between { λ q. ⌜ ((hand : List ℕ) → Between r (now (order .entry)) hand → Between q (now (order .exit)) hand) ⌝ }
     ensures same { λ q. ⌜ Stacks r q ⌝ }
 {
-    let mut buf = [0u8; 1280];
+    let mut buf = [0u8; FULL];
     let n = names::full::put_prefix(&mut buf, prefix);
     let mut ed = r;
     let mut at = 0;
@@ -104,9 +105,7 @@ pub fn scan(
     ensures between { λ q. ⌜ Between q (now (order .exit)) (slot ∷ []) ⌝ }
     ensures same { λ q. ⌜ Stacks r q ⌝ }
 {
-    let np = r.paths;
-    let nt = r.trees;
-    let prefix = store_runs::runs::run(plens, paths, np, slot);
-    let tree = store_runs::runs::run(tlens, trees, nt, slot);
+    let prefix = store_slots::path_in(r, plens, paths, slot);
+    let tree = store_slots::tree_in(r, tlens, trees, slot);
     scan_entries(r, plens, paths, order, prefix, tree, width)
 }

@@ -14,8 +14,8 @@ use Rattle.model.specs.Valid.{hasParent, haveParents, asideGood, takenGood}
 use Rattle.model.specs.Write.{bottom}
 use Rattle.model.proofs.ByteLaws.{same-refl}
 use Rattle.store_runs.proofs.FindLaws.{and-false}
-use Rattle.store_slots.specs.View.{heldAt, pathOf}
-use Rattle.store_check.specs.Written.{asideBy, startFrom}
+use Rattle.store_slots.specs.View.{heldAt, pathOf, startFrom}
+use Rattle.store_check.specs.Written.{asideBy}
 
 map-append : {A B : Type 0} (f : A → B) (a b : List A) → map f (a ++ b) ≡ map f a ++ map f b
 map-append f [] b = refl

@@ -25,10 +25,10 @@ use Rattle.names_compact.specs.Compact.{unpack, Run, blank, entryAt}
 use Rattle.names_compact.proofs.CompactLaws.{Mark, mark, offset-before, offset-zero, zero-tree}
 use Rattle.store_runs.specs.Runs.{total, runOf}
 use Rattle.store_runs.proofs.FindLaws.{cut-at}
-use Rattle.store_runs.proofs.Laws.{total-more, total-within}
+use Rattle.store_runs.proofs.RunLaws.{total-more, total-within}
 use Rattle.store_slots.specs.View.{Used, pathOf, treeOf}
 use Rattle.store_slots.specs.declared.Record.{Record}
-use Rattle.store_slots.proofs.Calls.{searched-run, tree-run}
+use Rattle.store_slots.proofs.Changes.{searched-run, tree-run}
 use Rattle.store_check.specs.Parents.{Begins, Begun, Read, Starts, Named, Child, Table, Children, Parented, Hanging}
 use Rattle.store_check.specs.Written.{Taking, asideBy}
 use Rattle.store_check.specs.declared.parents.Known.{Known}

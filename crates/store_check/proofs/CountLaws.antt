@@ -20,7 +20,7 @@ use Rattle.names.specs.declared.tree.Checked.the-variants.{WellFormed, Broken}
 use Rattle.names_compact.proofs.JudgeLaws.{compact-only, compact-back, compact-sized}
 use Rattle.store_runs.specs.Moves.{part}
 use Rattle.store_runs.specs.Runs.{total, cut, Sound}
-use Rattle.store_runs.proofs.Laws.{total-within, total-more, length-cut}
+use Rattle.store_runs.proofs.RunLaws.{total-within, total-more, length-cut}
 use Rattle.store_check.specs.Decides.{Decides}
 use Rattle.store_check.specs.Laid.{Whole, entriesIn, namesIn, Trees}
 use Rattle.store_check.proofs.Deciding.{all-so, Along, along-none, run-here, along-more}

@@ -10,7 +10,7 @@ use borrow.Author.Tests.{eqb-true, eqb-false}
 use Rattle.model.proofs.Basics.{no-way}
 use Rattle.store_runs.specs.Moves.{part}
 use Rattle.store_runs.specs.Runs.{total, cut, Sound}
-use Rattle.store_runs.proofs.Laws.{total-within, total-more}
+use Rattle.store_runs.proofs.RunLaws.{total-within, total-more}
 use Rattle.store_runs.proofs.FindLaws.{cut-at}
 use Rattle.store_check.specs.Decides.{Decides}
 

@@ -17,7 +17,7 @@ use Rattle.store_runs.specs.Moves.{part}
 use Rattle.store_runs.specs.Runs.{total, cut, Sound}
 use Rattle.store_runs.proofs.DigitLaws.{length-digits}
 use Rattle.store_runs.proofs.MoveLaws.{length-part, part-none}
-use Rattle.store_runs.proofs.Laws.{length-cut, total-within}
+use Rattle.store_runs.proofs.RunLaws.{length-cut, total-within}
 use Rattle.store_runs.proofs.FindLaws.{cut-at}
 use Rattle.store_slots.specs.View.{slots, viewOf, treeRoom, Laid}
 use Rattle.store_slots.specs.declared.Record.{Record}

@@ -24,7 +24,7 @@ use Rattle.store_slots.specs.View.{ifUsed, heldIn, slotsOf, marked, allDifferen
 use Rattle.store_slots.proofs.Slots.{front, back, slot, id, split-used, ifUsed-append}
 use Rattle.store_slots.proofs.Gather.{total-more, distinct-remove}
 use Rattle.store_check.specs.Written.{markable, Marks}
-use Rattle.store_check.specs.declared.written.Marked.{Marked}
+use Rattle.store_check.specs.declared.open_write.Marked.{Marked}
 
 -- one slot set
 slots-mark : (k w : ℕ) (ds : List ℕ) (ps bs : List Bytes) → k < length ds → length ps ≡ length ds → length bs ≡ length ds →

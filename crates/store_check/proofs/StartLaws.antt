@@ -14,8 +14,8 @@ use Rattle.store_runs.specs.Runs.{Sound}
 use Rattle.store_runs.specs.declared.runs.Found.{Found}
 use Rattle.store_runs.specs.declared.runs.Found.the-variants.{At, Nothing}
 use Rattle.store_slots.specs.View.{gather, slotsOf, SlotIs, pathOf}
-use Rattle.store_slots.proofs.Calls.{run-length}
-use Rattle.store_check.specs.Written.{startFrom, startFine}
+use Rattle.store_slots.proofs.Changes.{run-length}
+use Rattle.store_check.specs.Written.{startFine}
 
 -- ---- a search says whether something is there
 
@@ -28,10 +28,6 @@ any-found w ds ps bs p (At k) s = sym (ap isSome (s .3))
 any-found w ds ps bs p Nothing s = sym (ap isSome (s .0))
 
 -- ---- the start
-
-pub start-later : (n asked : ℕ) (order : List ℕ) → (n ≡ 0 → ⊥) → getD order 0 0 ≡ startFrom n asked order
-start-later zero asked order h = absurd (h refl)
-start-later (suc n) asked order h = refl
 
 -- a path of no byte
 pub path-nil : (plens paths : List ℕ) (used k : ℕ) → Sound plens paths used → k < length plens → getD plens k 0 ≡ 0 → pathOf plens paths k ≡ []

@@ -12,7 +12,7 @@ use Rattle.store_runs.proofs.DigitLaws.{length-digits}
 use Rattle.store_slots.specs.View.{Used, takenOf, marked, Opened}
 use Rattle.store_slots.specs.declared.Record.{Record}
 use Rattle.store_check.specs.Written.{markable, Marks}
-use Rattle.store_check.specs.declared.written.Marked.{Marked}
+use Rattle.store_check.specs.declared.open_write.Marked.{Marked}
 use Rattle.store_check.proofs.MarkLaws.{Clear, marked-append, markable-append, markable-clear, clear-markable, digits-tell}
 
 module _ (r : Record) (order : List ℕ) (l : length order ≡ 64) where

@@ -19,7 +19,7 @@ use Rattle.model.proofs.ValidSums.{total-append, total-reverse, Sane, sane-of, 
 use Rattle.store_runs.specs.Digits.{digits}
 use Rattle.store_runs.specs.Runs.{cut}
 use Rattle.store_runs.proofs.DigitLaws.{length-digits}
-use Rattle.store_runs.proofs.Laws.{length-cut}
+use Rattle.store_runs.proofs.RunLaws.{length-cut}
 use Rattle.store_slots.specs.View.{slotsOf, slots, gather, viewOf, Laid, Used, heldAt, cachedOf, asideOf, stackedOf, writeOf, editorOf, takenOf, Opened, Ordered}
 use Rattle.store_slots.specs.declared.Record.{Record}
 use Rattle.store_slots.proofs.Gather.{gather-rising, total-gather, gather-entries, gather-names, gather-paths, gather-length}

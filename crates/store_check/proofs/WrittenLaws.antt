@@ -12,10 +12,10 @@ use Rattle.model.specs.Editor.{Held, at, Cache, Write, startPath}
 use Rattle.model.specs.Valid.{rootHeld, writeGood, takenGood}
 use Rattle.model.specs.Write.{bottom}
 use Rattle.model.proofs.Basics.{and-left, and-right, no-way}
-use Rattle.store_slots.specs.View.{pathOf, heldAt, cachedOf, asideOf, stackedOf, startOf, writeOf, Closed, Opened}
+use Rattle.store_slots.specs.View.{pathOf, heldAt, cachedOf, asideOf, stackedOf, startOf, startFrom, startSlot, writeOf, Closed, Opened}
 use Rattle.store_slots.specs.declared.Record.{Record}
 use Rattle.store_check.specs.Decides.{Decides}
-use Rattle.store_check.specs.Written.{Written, startFrom, startSlot, startFine}
+use Rattle.store_check.specs.Written.{Written, startFine}
 use Rattle.store_check.proofs.ChainLaws.{taken-start, bottom-start}
 use Rattle.store_check.proofs.MarkLaws.{and-assoc}
 use Rattle.store_check.proofs.ParentLaws.{aside-low}

@@ -13,7 +13,7 @@ use Rattle.store_runs.specs.Digits.{digits}
 use Rattle.store_slots.specs.View.{heldAt, startOf, editorOf, marked, Opened, Ordered}
 use Rattle.store_slots.specs.declared.Record.{Record}
 use Rattle.store_check.specs.Laid.{Lays}
-use Rattle.store_check.specs.declared.written.Marked.{Marked}
+use Rattle.store_check.specs.declared.open_write.Marked.{Marked}
 
 -- the write's trees are in slots of their own, the root is cached or the write's start, and the trees hang together
 pub record Written (w : ℕ) (r : Record) (plens paths tlens trees order : List ℕ) : Type 0 where
@@ -45,14 +45,6 @@ pub record Marks (ks : List ℕ) (before : ℕ) (m : Marked) : Type 0 where
 -- the first n that were set aside, the latest first
 abbrev pub asideBy : ℕ → List ℕ → List ℕ → List ℕ → List ℕ → List ℕ → ℕ → List Held
 asideBy w plens paths tlens trees order n = reverse (map (heldAt w plens paths tlens trees) (take n order))
-
--- the slot of the tree that the write started at
-abbrev pub startFrom : ℕ → ℕ → List ℕ → ℕ
-startFrom zero asked order = asked
-startFrom (suc n) asked order = getD order 0 0
-
-abbrev pub startSlot : Record → List ℕ → ℕ
-startSlot r order = startFrom (r .aside) (r .asked) order
 
 -- a write that started at the path p may be open, and has or leaves a root
 abbrev pub startFine : ℕ → Bytes → Cache → Bool

@@ -7,6 +7,10 @@ ghost use Rattle.model.specs.Formats.{sha1};
 ghost use Rattle.store_slots.specs.View.{treeRoom, Holds};
 ghost use Rattle.store_check.specs.Decides.{Decides};
 ghost use Rattle.store_check.specs.Stored.{Stored};
+use names::limits::PATH_BYTES;
+use names::limits::SLOTS;
+use names::limits::TREE_BYTES;
+use names::limits::WIDTH;
 use store_slots::Record;
 
 // Whether slices as long as a store hold an editor with ids of this width.
@@ -25,7 +29,7 @@ fn exact(
     if !crate::laid::laid(r, plens, paths, tlens, trees, width) {
         return false;
     }
-    crate::written::write_ok(r, plens, paths, tlens, trees, order, width)
+    crate::open_write::write_ok(r, plens, paths, tlens, trees, order, width)
 }
 
 // Whether the record and the slices hold an editor with ids of 20 bytes.
@@ -39,28 +43,28 @@ pub fn holds(
 ) -> bool
     ensures { λ b. ⌜ Decides (Stored sha1 r (now (plens .entry)) (now (paths .entry)) (now (tlens .entry)) (now (trees .entry)) (now (order .entry))) b ⌝ }
 {
-    if plens.len() < 64 {
+    if plens.len() < SLOTS {
         return false;
     }
-    if paths.len() < 8192 {
+    if paths.len() < PATH_BYTES {
         return false;
     }
-    if tlens.len() < 64 {
+    if tlens.len() < SLOTS {
         return false;
     }
-    if trees.len() < 38912 {
+    if trees.len() < TREE_BYTES {
         return false;
     }
-    if order.len() < 64 {
+    if order.len() < SLOTS {
         return false;
     }
     exact(
         r,
-        &plens[..64],
-        &paths[..8192],
-        &tlens[..64],
-        &trees[..38912],
-        &order[..64],
-        20,
+        &plens[..SLOTS],
+        &paths[..PATH_BYTES],
+        &tlens[..SLOTS],
+        &trees[..TREE_BYTES],
+        &order[..SLOTS],
+        WIDTH,
     )
 }

@@ -9,6 +9,9 @@ ghost use Rattle.store_runs.specs.Runs.{cut, Sound};
 ghost use Rattle.store_slots.specs.View.{treeRoom};
 ghost use Rattle.store_check.specs.Decides.{Decides};
 ghost use Rattle.store_check.specs.Laid.{Lays, Blank, Lengths, goodPath, New, First, Paths, Trees};
+use names::limits::ENTRIES;
+use names::limits::NAME_BYTES;
+use names::limits::SLOTS;
 use names::tree::Checked;
 use store_slots::Record;
 
@@ -27,7 +30,7 @@ fn blank(map: u64, k: usize, plens: &[u64], tlens: &[u64]) -> bool
     requires { ⌜ (k < 64) × (length (now plens) ≡ 64) × (length (now tlens) ≡ 64) ⌝ }
     ensures { λ r. ⌜ Decides (Blank (getD (digits 64 map) k 0) (getD (now (plens .entry)) k 0) (getD (now (tlens .entry)) k 0)) r ⌝ }
 {
-    if !store_runs::free::is_free(map, k) {
+    if !store_runs::bits::is_set(map, k) {
         return true;
     }
     if plens[k] != 0 {
@@ -42,7 +45,7 @@ fn blanks(map: u64, plens: &[u64], tlens: &[u64]) -> bool
     ensures { λ r. ⌜ Decides ((k : ℕ) → k < 64 → Blank (getD (digits 64 map) k 0) (getD (now (plens .entry)) k 0) (getD (now (tlens .entry)) k 0)) r ⌝ }
 {
     let mut k = 0;
-    while k < 64 {
+    while k < SLOTS {
         if !blank(map, k, plens, tlens) {
             return false;
         }
@@ -85,7 +88,7 @@ fn good_paths(plens: &[u64], paths: &[u8], used: usize) -> bool
 {
     let mut a: usize = 0;
     let mut k = 0;
-    while k < 64 {
+    while k < SLOTS {
         let e = a + plens[k] as usize;
         if !good_path(&paths[a..e]) {
             return false;
@@ -119,7 +122,7 @@ fn is_first(map: u64, plens: &[u64], paths: &[u8], used: usize, k: usize, path: 
     requires { ⌜ Sound (now plens) (now paths) used × (length (now plens) ≡ 64) × (k < 64) × (now path ≡ getD (cut (now plens) (now paths)) k []) ⌝ }
     ensures { λ r. ⌜ Decides (First (digits 64 map) (cut (now (plens .entry)) (now (paths .entry))) k) r ⌝ }
 {
-    if store_runs::free::is_free(map, k) {
+    if store_runs::bits::is_set(map, k) {
         return true;
     }
     is_new(map, plens, paths, used, k, path)
@@ -134,15 +137,15 @@ fn repeated(map: u64, plens: &[u64], paths: &[u8], used: usize) -> u64
     let mut again: u64 = 0;
     let mut a: usize = 0;
     let mut k = 0;
-    while k < 64 {
+    while k < SLOTS {
         let e = a + plens[k] as usize;
-        if !store_runs::free::is_free(map, k) {
+        if !store_runs::bits::is_set(map, k) {
             let t = crate::tag::tag(&paths[a..e]);
             let w = seen[t / 64];
-            if store_runs::free::is_free(w, t % 64) {
-                again = store_runs::free::mark(again, k);
+            if store_runs::bits::is_set(w, t % 64) {
+                again = store_runs::bits::set(again, k);
             } else {
-                seen[t / 64] = store_runs::free::give(w, t % 64);
+                seen[t / 64] = store_runs::bits::set(w, t % 64);
             }
         }
         a = e;
@@ -162,9 +165,9 @@ fn apart(map: u64, plens: &[u64], paths: &[u8], used: usize) -> bool
     }
     let mut a: usize = 0;
     let mut k = 0;
-    while k < 64 {
+    while k < SLOTS {
         let e = a + plens[k] as usize;
-        if store_runs::free::is_free(again, k) {
+        if store_runs::bits::is_set(again, k) {
             if !is_first(map, plens, paths, used, k, &paths[a..e]) {
                 return false;
             }
@@ -202,7 +205,7 @@ fn trees_good(
     let mut ns = all_names;
     let mut a: usize = 0;
     let mut k = 0;
-    while k < 64 {
+    while k < SLOTS {
         let e = a + tlens[k] as usize;
         match names_compact::judge::judge(&trees[a..e], width) {
             Checked::WellFormed {
@@ -248,10 +251,10 @@ pub fn laid(
     let np = r.paths;
     let nt = r.trees;
     let map = r.free;
-    if 1024 < es {
+    if ENTRIES < es {
         return false;
     }
-    if 16384 < ns {
+    if NAME_BYTES < ns {
         return false;
     }
     if !lengths(r, plens, paths, tlens, trees) {

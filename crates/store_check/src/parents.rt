@@ -13,7 +13,7 @@ ghost use Rattle.store_slots.specs.View.{pathOf};
 ghost use Rattle.store_check.specs.Parents.{Begins, Begun, Read, Starts, Named, Child, Table, Children};
 
 // Writes where each run starts.
-pub fn begin(lens: &[u64], begins: &mut [u64])
+pub fn starts(lens: &[u64], begins: &mut [u64])
     requires { ⌜ (length (now begins) ≡ length (now lens)) × (total (now lens) < 2 ^ 63) ⌝ }
     ensures { λ _. ⌜ Begins (now (lens .entry)) (length (now (lens .entry))) (now (begins .exit)) ⌝ }
 {
@@ -68,7 +68,7 @@ fn is_tree(tree: &[u8], a: usize, lo: usize, hi: usize, name: &[u8]) -> bool
 }
 
 // The place after the first tree entry of this name from the entry on that starts at `at`, or 0.
-fn after(tree: &[u8], width: usize, at: usize, name: &[u8]) -> usize
+fn entry_after(tree: &[u8], width: usize, at: usize, name: &[u8]) -> usize
     requires { ⌜ Read width (now tree) × Starts width (now tree) at ⌝ }
     ensures { λ r. ⌜ Starts width (now (tree .entry)) r × ((r ≡ 0 → ⊥) → Named (now (name .entry)) (unpack width (now (tree .entry)))) ⌝ }
 {
@@ -94,7 +94,7 @@ fn after_child(home: &[u8], tree: &[u8], width: usize, at: usize, path: &[u8]) -
     if name.len() == 0 {
         return 0;
     }
-    after(tree, width, at, name)
+    entry_after(tree, width, at, name)
 }
 
 // How far down slots of the table are those of children, and where in the tree's entries the next may be.
@@ -140,7 +140,7 @@ pub struct Known {
 }
 
 // How far down the slots that stand in the table from lo to hi are those of children, and where they all are, whether the path is a child's that comes after them.
-pub fn family(
+pub fn known_children(
     home: &[u8],
     tree: &[u8],
     width: usize,

@@ -20,7 +20,7 @@ fn word_at(s: &[u8], at: usize) -> u32
 }
 
 // A word turned by five bits, and another added bit by bit.
-fn turn(h: u32, w: u32) -> u32
+fn rotate_xor(h: u32, w: u32) -> u32
     ensures { λ r. ⌜ r ≡ turned h w ⌝ }
 {
     ((h << 5) | (h >> 27)) ^ w
@@ -33,7 +33,7 @@ fn by_bytes(path: &[u8]) -> u32
     let mut h = (path.len() % 65536) as u32;
     let mut i = 0;
     while i < path.len() {
-        h = turn(h, wide(path[i]));
+        h = rotate_xor(h, wide(path[i]));
         i += 1;
     }
     h
@@ -46,9 +46,12 @@ fn by_four(path: &[u8]) -> u32
 {
     let n = path.len();
     let x = n / 8 * 4;
-    let h = turn((n % 65536) as u32, word_at(path, 0));
-    let g = turn(h, word_at(path, x));
-    turn(turn(g, word_at(path, n - 4 - x)), word_at(path, n - 4))
+    let h = rotate_xor((n % 65536) as u32, word_at(path, 0));
+    let g = rotate_xor(h, word_at(path, x));
+    rotate_xor(
+        rotate_xor(g, word_at(path, n - 4 - x)),
+        word_at(path, n - 4),
+    )
 }
 
 // The length and the bytes of a path, four by four and then the last four, as one word.
@@ -60,10 +63,10 @@ fn by_words(path: &[u8]) -> u32
     let mut h = (path.len() % 65536) as u32;
     let mut i = 0;
     while i < last {
-        h = turn(h, word_at(path, i));
+        h = rotate_xor(h, word_at(path, i));
         i += 4;
     }
-    turn(h, word_at(path, last))
+    rotate_xor(h, word_at(path, last))
 }
 
 // Twelve bits of a word, each of which depends on most of it.

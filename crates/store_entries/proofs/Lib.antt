@@ -1,3 +1,3 @@
 -- The laws that the proofs of several functions share.
-pub mod Calls
-pub mod Laws
+pub mod EditLaws
+pub mod PlaceLaws

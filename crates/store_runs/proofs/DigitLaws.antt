@@ -29,6 +29,11 @@ under-skip : (d t u : ℕ) → t ≡ u → under d t ≡ skip d u
 under-skip zero t u e = ap suc e
 under-skip (suc d) t u e = refl
 
+pub total-few : (w n : ℕ) → total (digits w n) ≤ w
+unfolding digits total
+total-few zero n = omega arith
+total-few (suc w) n = let h = total-few w (n / 2) in omega arith
+
 pub trailing-first : (w n : ℕ) → trailingZeros w n ≡ firstSet (digits w n)
 unfolding digits firstSet trailingZeros
 trailing-first zero n = refl

@@ -1,4 +1,4 @@
--- The free map: digit s of the word, counted from the lowest, is 1 where the slot s is free. Assumes nothing.
+-- A map of slots: digit s of the word, counted from the lowest, is 1 where the slot s is set. Assumes nothing.
 use Prim.Native.Nat.{ℕ, zero, suc, _+_, _/_, _%_}
 use mathlib.Core.List.{List, [], _∷_}
 

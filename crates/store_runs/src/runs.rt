@@ -8,6 +8,7 @@ ghost use Rattle.store_runs.specs.Runs.{total, cut, runOf, withRun, Soun
 ghost use Rattle.store_runs.specs.Find.{hit, findFrom};
 ghost use lib.Dec.{eqb};
 ghost use Rattle.store_runs.specs.Digits.{digits};
+use names::limits::SLOTS;
 
 // Where the run k starts.
 pub fn start(lens: &[u64], k: usize) -> usize
@@ -85,7 +86,7 @@ pub fn is_at(free: u64, bytes: &[u8], k: usize, a: usize, n: usize, path: &[u8])
     if !names::order::same_bytes(path, &bytes[a..e]) {
         return false;
     }
-    !crate::free::is_free(free, k)
+    !crate::bits::is_set(free, k)
 }
 
 // The first slot that is used and at the path.
@@ -95,7 +96,7 @@ pub fn find(free: u64, lens: &[u64], bytes: &[u8], used: usize, path: &[u8]) -> 
 {
     let mut i = 0;
     let mut a: usize = 0;
-    while i < 64 {
+    while i < SLOTS {
         let n = lens[i] as usize;
         if is_at(free, bytes, i, a, n, path) {
             return Found::At(i);

@@ -19,7 +19,7 @@ use Rattle.store_runs.specs.Digits.{digits, firstSet, skip}
 use Rattle.store_runs.proofs.DigitLaws.{length-digits}
 use Rattle.store_runs.specs.Runs.{cut}
 use Rattle.store_runs.specs.Runs.{total as lengths}
-use Rattle.store_runs.proofs.Laws.{length-cut}
+use Rattle.store_runs.proofs.RunLaws.{length-cut}
 use Rattle.names.specs.Check.{Wide}
 use Rattle.names_compact.specs.Compact.{packedAll, unpack}
 use Rattle.names_compact.proofs.CompactLaws.{packed-room, wide-good}

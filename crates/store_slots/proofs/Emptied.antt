@@ -10,7 +10,7 @@ use Rattle.model.specs.Tree.{distinct, wellFormed}
 use Rattle.model.specs.Editor.{Held, at, entryCount, nameCount}
 use Rattle.store_runs.specs.Digits.{digits}
 use Rattle.store_runs.specs.Runs.{cut, Sound, total}
-use Rattle.store_runs.proofs.Laws.{cut-none, total-none}
+use Rattle.store_runs.proofs.RunLaws.{cut-none, total-none}
 use Rattle.names_compact.specs.Compact.{packedAll, unpackIn, unpack}
 use Rattle.store_slots.specs.View.{slotsOf, slots, gather, viewOf, treeRoom, Laid, Ordered, fresh}
 

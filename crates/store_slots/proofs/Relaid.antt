@@ -20,7 +20,7 @@ use Rattle.model.proofs.RoomCounts.{entries-total, names-total}
 use Rattle.store_runs.specs.Digits.{digits}
 use Rattle.store_runs.proofs.DigitLaws.{length-digits}
 use Rattle.store_runs.specs.Runs.{cut, withRun, Sound}
-use Rattle.store_runs.proofs.Laws.{length-cut, with-other}
+use Rattle.store_runs.proofs.RunLaws.{length-cut, with-other}
 use Rattle.names_compact.specs.Compact.{packedAll, unpack, Run}
 use Rattle.names_compact.proofs.CompactLaws.{wide-good, unpacked}
 use Rattle.store_slots.specs.View.{slotsOf, slots, gather, viewOf, Laid, Others}

@@ -136,6 +136,14 @@ editorOf w r plens paths tlens trees order =
 abbrev pub takenOf : Record → List ℕ → List ℕ
 takenOf r order = r .asked ∷ (take (r .aside) order ++ drop (64 - r .stacked) order)
 
+-- the slot of the tree that the write started at
+abbrev pub startFrom : ℕ → ℕ → List ℕ → ℕ
+startFrom zero asked order = asked
+startFrom (suc n) asked order = getD order 0 0
+
+abbrev pub startSlot : Record → List ℕ → ℕ
+startSlot r order = startFrom (r .aside) (r .asked) order
+
 -- the digits with each of the places set
 unfoldable pub marked : List ℕ → List ℕ → List ℕ
 marked [] ds = ds

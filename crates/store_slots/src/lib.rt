@@ -2,16 +2,19 @@
 ghost use mathlib.Core.Path.{_≡_};
 ghost use mathlib.Core.Option.{none};
 ghost use mathlib.Core.Bool.{true};
-ghost use Prim.Native.Nat.{ℕ, _+_, _≤_};
+ghost use Prim.Native.Nat.{ℕ, _+_, _-_, _≤_, _<_};
 ghost use mathlib.Core.List.{List, []};
 ghost use lib.ListN.{length, set};
-ghost use Rattle.model.specs.Bytes.{Bytes};
+ghost use Rattle.model.specs.Bytes.{Bytes, has};
 ghost use Rattle.model.specs.Map.{find as finds, put, del};
 ghost use Rattle.model.specs.Editor.{at, fits};
+ghost use Rattle.model.specs.Write.{bottom};
 ghost use Rattle.store_runs.specs.Digits.{digits};
-ghost use Rattle.store_runs.specs.Runs.{cut, Sound};
-ghost use Rattle.store_slots.specs.View.{viewOf, heldAs, Laid, treeRoom, fresh, SlotIs, pathOf, Used, Others, SameWrite};
-use store_runs::runs::Found;
+ghost use Rattle.store_runs.specs.Find.{findFrom};
+ghost use Rattle.store_runs.specs.Runs.{total, cut, runOf, Sound};
+ghost use Rattle.store_slots.specs.View.{viewOf, heldAs, heldAt, asideOf, takenOf, startSlot, Laid, treeRoom, fresh, SlotIs, pathOf, Used, Others, SameWrite};
+use names::limits::SLOTS;
+pub use store_runs::runs::Found;
 
 // What is in use of the slices, and the open write. In `free`, set bits are free slots; in `hidden`, free ones and those that the write has taken.
 // `open` is 0 where no write is open, 1 for one from the root and 2 for one from a cursor; `aside` and `stacked` count its trees, and `asked` is
@@ -46,6 +49,55 @@ pub fn find(r: Record, plens: &[u64], paths: &[u8], path: &[u8]) -> Found
     store_runs::runs::find(map, plens, paths, np, path)
 }
 
+// The first used slot at a path, whether its tree is cached or taken.
+pub fn find_used(r: Record, plens: &[u64], paths: &[u8], path: &[u8]) -> Found
+    requires { ⌜ Sound (now plens) (now paths) (r .paths) × (length (now plens) ≡ 64) ⌝ }
+    ensures { λ f. ⌜ f ≡ findFrom 0 (digits 64 (r .free)) (cut (now (plens .entry)) (now (paths .entry))) (now (path .entry)) ⌝ }
+{
+    let map = r.free;
+    let np = r.paths;
+    store_runs::runs::find(map, plens, paths, np, path)
+}
+
+// The path of a slot, as a part of the caller's bytes.
+pub fn path_in<'a>(r: Record, plens: &[u64], paths: &'a [u8], slot: usize) -> &'a [u8]
+    requires { ⌜ Sound (now plens) (now paths) (r .paths) × (slot < length (now plens)) ⌝ }
+    ensures { λ p. ⌜ now p ≡ runOf (now (plens .entry)) (now (paths .entry)) slot ⌝ }
+{
+    let np = r.paths;
+    store_runs::runs::run(plens, paths, np, slot)
+}
+
+// The tree of a slot, as a part of the caller's bytes.
+pub fn tree_in<'a>(r: Record, tlens: &[u64], trees: &'a [u8], slot: usize) -> &'a [u8]
+    requires { ⌜ Sound (now tlens) (now trees) (r .trees) × (slot < length (now tlens)) ⌝ }
+    ensures { λ t. ⌜ now t ≡ runOf (now (tlens .entry)) (now (trees .entry)) slot ⌝ }
+{
+    let nt = r.trees;
+    store_runs::runs::run(tlens, trees, nt, slot)
+}
+
+// How many slots are used.
+pub fn used(r: Record) -> usize
+    ensures { λ n. ⌜ n ≡ 64 - total (digits 64 (r .free)) ⌝ }
+{
+    let map = r.free;
+    SLOTS - store_runs::bits::count(map)
+}
+
+// The slot of the tree that the open write started at: the first set aside, or the requested one where none is.
+pub fn start(r: Record, order: &[u64]) -> usize
+    requires { ⌜ length (now order) ≡ 64 ⌝ }
+    ensures start { λ k. ⌜ ((w : ℕ) (plens paths tlens trees : List ℕ) → heldAt w plens paths tlens trees k ≡ bottom (heldAt w plens paths tlens trees (r .asked)) (asideOf w r plens paths tlens trees (now (order .entry)))) ⌝ }
+    ensures taken { λ k. ⌜ has k (takenOf r (now (order .entry))) ≡ true ⌝ }
+    ensures slot { λ k. ⌜ k ≡ startSlot r (now (order .entry)) ⌝ }
+{
+    if r.aside == 0 {
+        return r.asked;
+    }
+    order[0] as usize
+}
+
 // Drops the tree in a slot.
 pub fn drop_slot(
     r: Record,
@@ -76,8 +128,8 @@ pub fn drop_slot(
     let bytes = r.names - ns;
     let p = store_runs::runs::remove(plens, paths, np, k, 0, n);
     let t = store_runs::runs::remove(tlens, trees, nt, k, 0, m);
-    let f = store_runs::free::give(map, k);
-    let h = store_runs::free::mark(hid, k);
+    let f = store_runs::bits::set(map, k);
+    let h = store_runs::bits::set(hid, k);
     Record {
         free: f,
         hidden: h,
@@ -112,9 +164,9 @@ pub fn add_empty(
 {
     let map = r.free;
     let np = r.paths;
-    let k = store_runs::free::first(map);
+    let k = store_runs::bits::first(map);
     let p = store_runs::runs::insert(plens, paths, np, k, 0, path);
-    let f = store_runs::free::take(map, k);
+    let f = store_runs::bits::clear(map, k);
     Taken {
         slot: k,
         editor: Record {

@@ -1,19 +1,16 @@
 -- Slots dropped one after the other: so far those of the map below a place are free, and the rest holds what it held. Assumes nothing.
 use mathlib.Core.Path.{_≡_, refl, sym, ap, _∙_}
 use mathlib.Core.Bool.{Bool, true, false, not, _&&_}
-use mathlib.Core.List.{List, [], _∷_, _++_, map, reverse, reverse-cons}
-use Prim.Native.Nat.{ℕ, zero, suc, _+_, _≤_, _<_, compare, Ordering, Ordering·lt, Ordering·eq, Ordering·gt}
+use mathlib.Core.List.{List, [], _∷_}
+use Prim.Native.Nat.{ℕ, zero, suc, _+_, _≤_, _<_}
 use native.Mathlib.Omega.{arith}
 use native.Mathlib.Numerals.{add-one}
 use lib.Dec.{eqb}
 use borrow.Author.Tests.{eqb-true, eqb-false}
 use lib.ListN.{length, take, getD, set, length-set}
 use lib.Seq.{getD-set-same, getD-set-other, take-all, ext-getD}
-use Rattle.model.specs.Bytes.{by, has}
-use Rattle.model.specs.Editor.{Held}
-use Rattle.model.specs.Write.{bottom}
+use Rattle.model.specs.Bytes.{has}
 use Rattle.model.proofs.Basics.{no-way, and-left, and-right, not-true}
-use Rattle.model.proofs.ByteLaws.{has-here}
 use Rattle.store_slots.proofs.Marked.{marked-other}
 use Rattle.store_runs.specs.Digits.{digits}
 use Rattle.store_runs.proofs.DigitLaws.{length-digits, digit-same, digit-zero}
@@ -154,30 +151,3 @@ module _ (r : Record) (ks : List ℕ) (m : Marks r ks) (k : ℕ) (i : has k ks �
       left-between s fs hs low from ea es order l =
           let z : Record = record { free = s .free; hidden = s .free; paths = s .paths; trees = s .trees; entries = s .entries; names = s .names; «open» = s .«open»; aside = s .aside; stacked = s .stacked; asked = s .asked } in
           open-between z k refl (used-same q z fs k left-still) s refl (ap (digits 64) hs ∙ left-only ∙ ap (λ (x : ℕ). set (digits 64 x) k 1) (sym fs)) ea es low from order l
-
--- ---- the start tree
-
-bottom-last : (h : Held) (l : List Held) (x : Held) → bottom h (l ++ (x ∷ [])) ≡ x
-bottom-last h [] x = refl
-bottom-last h (y ∷ l) x = bottom-last y l x
-
-has-later : (k y : ℕ) (l : List ℕ) → has k l ≡ true → has k (y ∷ l) ≡ true
-has-later k y l e = go (compare k y)
-  where
-    go : (o : Ordering) → by o (has k l) true (has k l) ≡ true
-    go Ordering·lt = e
-    go Ordering·eq = refl
-    go Ordering·gt = e
-
-pub start-asked : (f : ℕ → Held) (order : List ℕ) (n k : ℕ) → n ≡ 0 → f k ≡ bottom (f k) (reverse (map f (take n order)))
-start-asked f order n k z = ap (λ (x : ℕ). bottom (f k) (reverse (map f (take x order)))) (sym z)
-
-pub start-first : (f : ℕ → Held) (order : List ℕ) (n k : ℕ) → (n ≡ 0 → ⊥) → 0 < length order → f (getD order 0 0) ≡ bottom (f k) (reverse (map f (take n order)))
-start-first f [] n k z h = absurd (omega arith)
-start-first f (x ∷ order) zero k z h = absurd (z refl)
-start-first f (x ∷ order) (suc n) k z h = sym (ap (bottom (f k)) (reverse-cons (f x) (map f (take n order))) ∙ bottom-last (f k) (reverse (map f (take n order))) (f x))
-
-pub first-taken : (order : List ℕ) (n k : ℕ) (l : List ℕ) → (n ≡ 0 → ⊥) → 0 < length order → has (getD order 0 0) (k ∷ (take n order ++ l)) ≡ true
-first-taken [] n k l z h = absurd (omega arith)
-first-taken (x ∷ order) zero k l z h = absurd (z refl)
-first-taken (x ∷ order) (suc n) k l z h = has-later x k (x ∷ (take n order ++ l)) (has-here x x (take n order ++ l) refl)

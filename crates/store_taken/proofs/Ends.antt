@@ -15,7 +15,7 @@ use Rattle.store_slots.proofs.Marked.{length-marked}
 use Rattle.store_runs.specs.Digits.{digits}
 use Rattle.store_runs.specs.Runs.{cut}
 use Rattle.store_runs.proofs.DigitLaws.{length-digits, digit-same}
-use Rattle.store_runs.proofs.Laws.{length-cut}
+use Rattle.store_runs.proofs.RunLaws.{length-cut}
 use Rattle.store_slots.specs.View.{slotsOf, gather, heldIn, Laid, Used, SameWrite, marked, allDifferent, heldAt, cachedOf, asideOf, stackedOf, Ordered, Closed}
 use Rattle.store_slots.specs.declared.Record.{Record}
 use Rattle.store_taken.specs.Taken.{goingOf, Marks, Between, SameTree}

@@ -16,7 +16,7 @@ use Rattle.store_runs.specs.Digits.{digits}
 use Rattle.store_runs.specs.Moves.{over}
 use Rattle.store_runs.specs.Runs.{cut, total, Sound}
 use Rattle.store_runs.proofs.FindLaws.{cut-at}
-use Rattle.store_runs.proofs.Laws.{length-cut, cut-none, total-none, total-within}
+use Rattle.store_runs.proofs.RunLaws.{length-cut, cut-none, total-none, total-within}
 use Rattle.names_compact.specs.Compact.{packedAll, unpackIn, unpack}
 use Rattle.store_slots.specs.View.{slotsOf, slots, gather, viewOf, heldIn, Laid, heldAt, treeOf}
 use Rattle.store_slots.specs.declared.Record.{Record}

@@ -20,7 +20,7 @@ use Rattle.store_slots.proofs.Marked.{marked-other}
 use Rattle.store_runs.specs.Digits.{digits}
 use Rattle.store_runs.specs.Runs.{cut, Sound, total}
 use Rattle.store_runs.proofs.DigitLaws.{length-digits}
-use Rattle.store_runs.proofs.Laws.{length-cut}
+use Rattle.store_runs.proofs.RunLaws.{length-cut}
 use Rattle.store_slots.specs.View.{slotsOf, gather, Laid, Used, marked, heldAt, cachedOf, asideOf, stackedOf, writeOf, Opened, Ordered}
 use Rattle.store_slots.specs.declared.Record.{Record}
 use Rattle.store_taken.specs.Taken.{goingOf, stackedOn, keptOn, takenOff, writingOf, Marks, allTaken, Between, Cached, SameSlots}

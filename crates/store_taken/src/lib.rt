@@ -5,7 +5,6 @@ ghost use Prim.Native.Nat.{ℕ, _+_, _-_, _≤_, _<_};
 ghost use mathlib.Core.List.{List, [], _∷_};
 ghost use lib.ListN.{length, getD, set, replicate};
 ghost use Rattle.model.specs.Bytes.{has};
-ghost use Rattle.model.specs.Write.{bottom};
 ghost use mathlib.Core.Option.{none};
 ghost use mathlib.Core.Bool.{true, not, _&&_};
 ghost use lib.Dec.{eqb};
@@ -13,8 +12,9 @@ ghost use Rattle.model.specs.Map.{put};
 ghost use Rattle.model.specs.Editor.{at};
 ghost use Rattle.store_runs.specs.Digits.{digits};
 ghost use Rattle.store_runs.specs.Runs.{cut, Sound};
-ghost use Rattle.store_slots.specs.View.{Laid, Used, Ordered, SameWrite, editorOf, heldAt, cachedOf, asideOf};
+ghost use Rattle.store_slots.specs.View.{Laid, Used, Ordered, SameWrite, editorOf, heldAt, cachedOf};
 ghost use Rattle.store_taken.specs.Taken.{goingOf, stackedOn, keptOn, takenOff, Between, Cached, SameSlots, SameTree, writingOf, allTaken, joined, markIf};
+use names::limits::SLOTS;
 use store_slots::Record;
 use store_slots::Taken;
 
@@ -28,8 +28,8 @@ pub fn stack(r: Record, order: &mut [u64], slot: usize) -> Record
 {
     let map = r.hidden;
     let n = r.stacked + 1;
-    order[64 - n] = slot as u64;
-    let h = store_runs::free::give(map, slot);
+    order[SLOTS - n] = slot as u64;
+    let h = store_runs::bits::set(map, slot);
     Record {
         hidden: h,
         stacked: n,
@@ -46,7 +46,7 @@ pub fn pop(r: Record, order: &[u64]) -> Taken
     ensures same { λ t. ⌜ SameSlots r (t .editor) × (t .editor .hidden ≡ r .hidden) × (t .editor .«open» ≡ r .«open») × (t .editor .aside ≡ r .aside) × (t .editor .stacked ≡ r .stacked - 1) × (t .editor .asked ≡ r .asked) ⌝ }
 {
     let n = r.stacked;
-    let k = order[64 - n] as usize;
+    let k = order[SLOTS - n] as usize;
     Taken {
         slot: k,
         editor: Record {
@@ -134,27 +134,15 @@ pub fn close(r: Record) -> Record
     }
 }
 
-// The slot of the tree that the write started at.
-pub fn start(r: Record, order: &[u64]) -> usize
-    requires { ⌜ Between r (now order) (r .asked ∷ []) ⌝ }
-    ensures start { λ k. ⌜ ((w : ℕ) (plens paths tlens trees : List ℕ) → heldAt w plens paths tlens trees k ≡ bottom (heldAt w plens paths tlens trees (r .asked)) (asideOf w r plens paths tlens trees (now (order .entry)))) ⌝ }
-    ensures taken { λ k. ⌜ has k (allTaken r (now (order .entry)) (r .asked ∷ [])) ≡ true ⌝ }
-{
-    if r.aside == 0 {
-        return r.asked;
-    }
-    order[0] as usize
-}
-
 // Whether the slot k is used and one of those in a map.
 fn goes(free: u64, gone: u64, k: usize) -> bool
     requires { ⌜ k < 64 ⌝ }
     ensures { λ b. ⌜ b ≡ (not (eqb (getD (digits 64 free) k 0) 1) && eqb (getD (digits 64 gone) k 0) 1) ⌝ }
 {
-    if store_runs::free::is_free(free, k) {
+    if store_runs::bits::is_set(free, k) {
         return false;
     }
-    store_runs::free::is_free(gone, k)
+    store_runs::bits::is_set(gone, k)
 }
 
 // Drops the tree of a slot if the slot is used and one of those in a map.
@@ -199,7 +187,7 @@ fn drop_each(
 {
     let mut ed = r;
     let mut k = 0;
-    while k < 64 {
+    while k < SLOTS {
         ed = drop_one(ed, plens, paths, tlens, trees, width, gone, k);
         k += 1;
     }
@@ -225,7 +213,7 @@ pub fn drop_others(
     ensures same { λ q. ⌜ (q .hidden ≡ r .hidden) × (q .«open» ≡ r .«open») × (q .aside ≡ 0) × (q .stacked ≡ 0) ⌝ }
 {
     let map = r.hidden;
-    let gone = store_runs::free::take(map, start);
+    let gone = store_runs::bits::clear(map, start);
     let ed = drop_each(r, plens, paths, tlens, trees, width, gone);
     Record {
         hidden: map,
@@ -272,7 +260,7 @@ pub fn keep_only(
     let p = keep_run(plens, paths, np, slot);
     let t = keep_run(tlens, trees, nt, slot);
     let ns = t - es * (2 + width);
-    let f = store_runs::free::take(0xffff_ffff_ffff_ffff, slot);
+    let f = store_runs::bits::clear(0xffff_ffff_ffff_ffff, slot);
     Record {
         free: f,
         hidden: f,

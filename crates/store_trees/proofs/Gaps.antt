@@ -10,7 +10,7 @@ use Rattle.names.proofs.WriteLaws.{splice-whole, length-splice}
 use Rattle.store_runs.specs.Moves.{part}
 use Rattle.store_runs.specs.Runs.{total, cut, withRun, Sound}
 use Rattle.store_runs.proofs.MoveLaws.{splice-is, length-part, drop-take}
-use Rattle.store_runs.proofs.Laws.{total-within, before, behind, before-length, lens-after, edited, edited-sum, splice-view, with-same}
+use Rattle.store_runs.proofs.RunLaws.{total-within, before, behind, before-length, lens-after, edited, edited-sum, splice-view, with-same}
 
 -- two changes of one run, one after the other
 pub with-twice : (f g : List ℕ → List ℕ) (rs : List (List ℕ)) (k : ℕ) → withRun k f (withRun k g rs) ≡ withRun k (λ (l : List ℕ). f (g l)) rs

@@ -26,11 +26,11 @@ use Rattle.store_runs.specs.Digits.{digits}
 use Rattle.store_runs.specs.Runs.{cut, withRun, Sound}
 use Rattle.store_slots.specs.View.{viewOf, heldAs, Laid, Used, SameWrite, pathOf, treeOf}
 use Rattle.store_slots.specs.declared.Record.{Record}
-use Rattle.store_slots.proofs.Calls.{tree-size}
+use Rattle.store_slots.proofs.Changes.{tree-size}
 use Rattle.store_slots.proofs.Counts.{trees-is}
 use Rattle.store_slots.proofs.Relaid.{find-slot}
 use Rattle.store_entries.specs.Entries.{Kept, Edited}
-use Rattle.store_entries.proofs.Calls.{edited, entries-then, names-then}
+use Rattle.store_entries.proofs.EditLaws.{edited, entries-then, names-then}
 
 -- the tree whose size the check told
 module _ (w : ℕ) (raw : Bytes) (es ns : ℕ) (size : sizeOf (readTree w raw) ≡ some (record { entries = es; bytes = ns })) where

@@ -21,13 +21,13 @@ use Rattle.store_runs.specs.Moves.{part, removed}
 use Rattle.store_runs.proofs.MoveLaws.{splice-is}
 use Rattle.store_runs.specs.Runs.{total, cut, withRun, runOf, Sound}
 use Rattle.store_runs.proofs.FindLaws.{cut-at}
-use Rattle.store_runs.proofs.Laws.{total-within, splice-view, with-same}
+use Rattle.store_runs.proofs.RunLaws.{total-within, splice-view, with-same}
 use Rattle.store_slots.specs.View.{Laid, Used, treeOf}
 use Rattle.store_slots.specs.declared.Record.{Record}
-use Rattle.store_slots.proofs.Calls.{run-length}
+use Rattle.store_slots.proofs.Changes.{run-length}
 use Rattle.store_slots.proofs.Relaid.{entries-in, names-in}
 use Rattle.store_entries.specs.Entries.{Kept, Edited}
-use Rattle.store_entries.proofs.Calls.{edited}
+use Rattle.store_entries.proofs.EditLaws.{edited}
 use Rattle.store_trees.proofs.Gaps.{with-twice}
 use Rattle.store_trees.specs.Trees.{Fewer}
 use Rattle.store_trees.specs.declared.nulls.Left.{Left}

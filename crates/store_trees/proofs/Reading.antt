@@ -7,10 +7,10 @@ use lib.ListN.{length}
 use Rattle.names_compact.specs.Compact.{Run, unpack}
 use Rattle.store_runs.specs.Runs.{runOf}
 use Rattle.store_runs.proofs.FindLaws.{cut-at}
-use Rattle.store_runs.proofs.Laws.{total-within}
+use Rattle.store_runs.proofs.RunLaws.{total-within}
 use Rattle.store_slots.specs.View.{Laid, treeOf}
 use Rattle.store_slots.specs.declared.Record.{Record}
-use Rattle.store_slots.proofs.Calls.{run-length}
+use Rattle.store_slots.proofs.Changes.{run-length}
 use Rattle.store_slots.proofs.Relaid.{run-in}
 use Rattle.store_trees.specs.Trees.{Readable}
 

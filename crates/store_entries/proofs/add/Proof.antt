@@ -11,9 +11,9 @@ use Rattle.names.specs.Answers.{asMode, entry}
 use Rattle.names_compact.specs.Compact.{Run, Tells, unpack}
 use Rattle.store_runs.specs.Runs.{runOf}
 use Rattle.store_slots.specs.View.{treeOf}
-use Rattle.store_slots.proofs.Calls.{searched-run}
+use Rattle.store_slots.proofs.Changes.{searched-run}
 use Rattle.store_entries.specs.Entries.{Edited}
-use Rattle.store_entries.proofs.Calls.{absent, rising-run, not-yet, edited-same, put-then, fresh-kept, fits-then}
+use Rattle.store_entries.proofs.EditLaws.{absent, rising-run, not-yet, edited-same, put-then, fresh-kept, fits-then}
 use borrow.Author.Needs.{needs}
 use Rattle.store_entries.proofs.add.Statement.{statement}
 use Rattle.store_entries.proofs.add.Tie as tie

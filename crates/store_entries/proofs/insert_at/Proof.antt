@@ -9,7 +9,7 @@ use Rattle.model.specs.Tree.{isTree}
 use Rattle.names.specs.Answers.{asMode, entry}
 use Rattle.names_compact.specs.Compact.{packed}
 use Rattle.names_compact.proofs.CompactLaws.{name-short}
-use Rattle.store_entries.proofs.Calls.{place-fits, insert-room, counts-fit, inserting}
+use Rattle.store_entries.proofs.EditLaws.{place-fits, insert-room, counts-fit, inserting}
 use borrow.Author.Needs.{needs}
 use Rattle.store_entries.proofs.insert_at.Statement.{statement}
 use Rattle.store_entries.proofs.insert_at.Tie as tie

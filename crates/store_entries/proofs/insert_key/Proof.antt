@@ -8,7 +8,7 @@ use Rattle.model.specs.Tree.{key, asKind, isTree}
 use Rattle.names.specs.Answers.{asMode}
 use Rattle.names_compact.specs.Compact.{Run, Tells, unpack}
 use Rattle.store_runs.specs.Runs.{runOf}
-use Rattle.store_slots.proofs.Calls.{searched-run}
+use Rattle.store_slots.proofs.Changes.{searched-run}
 use borrow.Author.Needs.{needs}
 use Rattle.store_entries.proofs.insert_key.Statement.{statement}
 use Rattle.store_entries.proofs.insert_key.Tie as tie

@@ -4,7 +4,7 @@ use mathlib.Core.Bool.{false}
 use Rattle.model.specs.Map.{del}
 use Rattle.model.specs.Tree.{key, asKind, without}
 use Rattle.store_slots.specs.View.{treeOf}
-use Rattle.store_entries.proofs.Calls.{edited-same, edited-twice}
+use Rattle.store_entries.proofs.EditLaws.{edited-same, edited-twice}
 use borrow.Author.Needs.{needs}
 use Rattle.store_entries.proofs.remove.Statement.{statement}
 use Rattle.store_entries.proofs.remove.Tie as tie

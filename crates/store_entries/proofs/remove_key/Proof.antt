@@ -10,8 +10,8 @@ use Rattle.model.specs.Search.{searched}
 use Rattle.model.specs.Tree.{key, asKind}
 use Rattle.names_compact.specs.Compact.{Run, Tells, unpack, offset, entryAt}
 use Rattle.store_runs.specs.Runs.{runOf}
-use Rattle.store_slots.proofs.Calls.{searched-run, run-fits}
-use Rattle.store_entries.proofs.Calls.{not-there, index-in, name-long, in-run, some-entry, some-names, removing}
+use Rattle.store_slots.proofs.Changes.{searched-run, run-fits}
+use Rattle.store_entries.proofs.EditLaws.{not-there, index-in, name-long, in-run, some-entry, some-names, removing}
 use borrow.Author.Needs.{needs}
 use Rattle.store_entries.proofs.remove_key.Statement.{statement}
 use Rattle.store_entries.proofs.remove_key.Tie as tie

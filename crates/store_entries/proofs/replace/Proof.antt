@@ -2,7 +2,7 @@
 use Rattle.model.specs.Tree.{withEntry}
 use Rattle.names.specs.Answers.{asMode, entry}
 use Rattle.store_slots.specs.View.{treeOf}
-use Rattle.store_entries.proofs.Calls.{edited-same, edited-twice, put-then, fresh-kept, fits-then}
+use Rattle.store_entries.proofs.EditLaws.{edited-same, edited-twice, put-then, fresh-kept, fits-then}
 use borrow.Author.Needs.{needs}
 use Rattle.store_entries.proofs.replace.Statement.{statement}
 use Rattle.store_entries.proofs.replace.Tie as tie

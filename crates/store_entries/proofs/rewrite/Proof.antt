@@ -8,7 +8,7 @@ use Rattle.names.specs.Answers.{entry}
 use Rattle.names_compact.specs.Compact.{packed}
 use Rattle.names.specs.Splice.{splice}
 use Rattle.store_runs.specs.Runs.{total}
-use Rattle.store_runs.proofs.Laws.{total-within, splice-view}
+use Rattle.store_runs.proofs.RunLaws.{total-within, splice-view}
 use borrow.Author.Needs.{needs}
 use Rattle.store_entries.proofs.rewrite.Statement.{statement}
 use Rattle.store_entries.proofs.rewrite.Tie as tie

@@ -10,8 +10,8 @@ use Rattle.names.specs.Answers.{asMode}
 use Rattle.names_compact.specs.Compact.{Run, Tells, unpack}
 use Rattle.names_compact.proofs.CompactLaws.{name-short}
 use Rattle.store_runs.specs.Runs.{runOf}
-use Rattle.store_slots.proofs.Calls.{searched-run}
-use Rattle.store_entries.proofs.Calls.{over-fits, rewriting, none-there}
+use Rattle.store_slots.proofs.Changes.{searched-run}
+use Rattle.store_entries.proofs.EditLaws.{over-fits, rewriting, none-there}
 use borrow.Author.Needs.{needs}
 use Rattle.store_entries.proofs.set.Statement.{statement}
 use Rattle.store_entries.proofs.set.Tie as tie

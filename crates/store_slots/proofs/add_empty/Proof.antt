@@ -1,6 +1,6 @@
 -- `store_slots::add_empty` meets its contract: the first free slot is blank, so it is at the new path with no entry. Assumes nothing.
 use Rattle.store_slots.proofs.Relaid.{others-with}
-use Rattle.store_slots.proofs.Calls.{added}
+use Rattle.store_slots.proofs.Changes.{added}
 use Rattle.store_slots.proofs.Counts.{room-slot, room-paths}
 use Rattle.store_runs.proofs.DigitLaws.{first-set}
 use Rattle.store_runs.specs.Digits.{digits, firstSet}
@@ -30,8 +30,8 @@ insert-requires c κs =
     let k = c .before .before .first in
     (L .paths-sound, omega (arith, l, k .ensures, L .plens-64), omega arith, omega (arith, paths-fit s, L .paths-room))
 
-take-requires : tie.Need-take-requires
-take-requires c κs =
+clear-requires : tie.Need-clear-requires
+clear-requires c κs =
     let s = c .before .before .before .before .before .before .before .before .before .before .before .before .before in
     let l = low s in
     let k = c .before .before .before .before .before .before .before .first in
@@ -51,14 +51,14 @@ returns c =
     let i = c .before .before .before .before .before .insert in
     let x =
     added (a .width) (a .r) (a .plens .now) (a .paths .now) (a .tlens .now) (a .trees .now) (s .pre .0) (a .path .now) (s .pre .2) (k .result) (k .ensures) (omega (arith, low s, k .ensures))
-    (record { free = c .take .result; hidden = c .take .result; paths = i .result; trees = a .r .trees; entries = a .r .entries; names = a .r .names; «open» = a .r .«open»; aside = a .r .aside; stacked = a .r .stacked; asked = a .r .asked }) (i .last .0) (i .last .1 .0) (i .ensures .0) (i .ensures .1 .0) (i .kept .0) (i .kept .1 .0)
-    (c .take .ensures) refl refl refl in (
+    (record { free = c .clear .result; hidden = c .clear .result; paths = i .result; trees = a .r .trees; entries = a .r .entries; names = a .r .names; «open» = a .r .«open»; aside = a .r .aside; stacked = a .r .stacked; asked = a .r .asked }) (i .last .0) (i .last .1 .0) (i .ensures .0) (i .ensures .1 .0) (i .kept .0) (i .kept .1 .0)
+    (c .clear .ensures) refl refl refl in (
       x .view,
       (
         (x .used, x .path),
         (
           x .laid,
-          ((others-with _ (a .plens .now) (a .paths .now) (i .last .0) (i .last .1 .0) (k .result) (i .ensures .0), c .take .ensures), (refl, record { «open» = refl; aside = refl; stacked = refl; asked = refl })),
+          ((others-with _ (a .plens .now) (a .paths .now) (i .last .0) (i .last .1 .0) (k .result) (i .ensures .0), c .clear .ensures), (refl, record { «open» = refl; aside = refl; stacked = refl; asked = refl })),
         ),
       ),
     )
@@ -66,4 +66,4 @@ returns c =
 pub add-empty-spec : {M : Type 1} → statement M
 add-empty-spec =
     tie.close
-    (tie.spec first-requires insert-requires take-requires same-length same-length-2 returns)
+    (tie.spec first-requires insert-requires clear-requires same-length same-length-2 returns)

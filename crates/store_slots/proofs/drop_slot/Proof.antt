@@ -1,7 +1,7 @@
 -- `store_slots::drop_slot` meets its contract: the slot's path and run are taken out whole. Assumes nothing.
 use mathlib.Core.List.{List}
 use Rattle.model.specs.Tree.{nameBytes}
-use Rattle.store_slots.proofs.Calls.{searched-run, tree-run, tree-size, run-fits, dropped}
+use Rattle.store_slots.proofs.Changes.{searched-run, tree-run, tree-size, run-fits, dropped}
 use Rattle.store_slots.proofs.Relaid.{others-with, entries-in, names-in}
 use Rattle.store_slots.specs.View.{treeOf}
 use Rattle.names_compact.specs.Compact.{Run, unpack}
@@ -70,13 +70,13 @@ remove-requires-2 c κs =
     let s = c .before .before .before .before .before .before .before .before .before .before .before .before .before .before .before .before .before .before .before .before .before in
     (s .pre .0 .trees-sound, omega (arith, s .pre .0 .tlens-64, s .pre .2 .low), omega arith)
 
-give-requires : tie.Need-give-requires
-give-requires c κs =
+set-requires : tie.Need-set-requires
+set-requires c κs =
     let s = c .before .before .before .before .before .before .before .before .before .before .before .before .before .before .before .before .before .before .before .before .before .before .before .before .before .before in
-    (s .pre .2 .low, s .pre .2 .used)
+    s .pre .2 .low
 
-mark-requires : tie.Need-mark-requires
-mark-requires c κs = c .before .before .before .before .before .before .before .before .before .before .before .before .before .before .before .before .before .before .before .before .before .before .before .before .before .before .before .pre .2 .low
+set-requires-2 : tie.Need-set-requires-2
+set-requires-2 c κs = c .before .before .before .before .before .before .before .before .before .before .before .before .before .before .before .before .before .before .before .before .before .before .before .before .before .before .before .pre .2 .low
 
 sub-left : tie.Need-sub-left
 sub-left c =
@@ -111,8 +111,8 @@ returns c =
     let a = s .args in
     let p = c .before .before .before .before .before .before .before .before .before .before .before .before .before .remove in
     let t = c .before .before .before .before .before .before .remove2 in
-    let g = c .before .give in
-    let h = c .mark in
+    let g = c .before .set in
+    let h = c .set2 in
     let x =
     dropped (a .width) (a .r) (a .plens .now) (a .paths .now) (a .tlens .now) (a .trees .now) (s .pre .0) (a .k) (s .pre .2)
     (record {
@@ -128,14 +128,14 @@ returns c =
       asked = a .r .asked;
     })
     (p .last .0) (p .last .1 .0) (t .last .0) (t .last .1 .0) (getD (a .plens .now) (a .k) 0) (getD (a .tlens .now) (a .k) 0) (n .count .result) refl refl (entries n)
-    (p .ensures .0) (t .ensures .0) (p .ensures .1 .0) (t .ensures .1 .0) (p .kept .0) (t .kept .0) (p .kept .1 .0) (t .kept .1 .0) (g .ensures .1) refl refl in (
+    (p .ensures .0) (t .ensures .0) (p .ensures .1 .0) (t .ensures .1 .0) (p .kept .0) (t .kept .0) (p .kept .1 .0) (t .kept .1 .0) (g .ensures .0) refl refl in (
       x .0,
       (
         x .1,
         (
-          (others-with _ (a .plens .now) (a .paths .now) (p .last .0) (p .last .1 .0) (a .k) (p .ensures .0), others-with _ (a .tlens .now) (a .trees .now) (t .last .0) (t .last .1 .0) (a .k) (t .ensures .0), g .ensures .1, h .ensures .0),
+          (others-with _ (a .plens .now) (a .paths .now) (p .last .0) (p .last .1 .0) (a .k) (p .ensures .0), others-with _ (a .tlens .now) (a .trees .now) (t .last .0) (t .last .1 .0) (a .k) (t .ensures .0), g .ensures .0, h .ensures .0),
           (
-            λ e. h .ensures .1 (ap (λ (y : ℕ). getD (digits 64 y) (a .k) 0) e ∙ s .pre .2 .used) ∙ ap (λ (y : ℕ). y + 2 ^ a .k) e ∙ sym (g .ensures .0),
+            λ e. h .ensures .1 (ap (λ (y : ℕ). getD (digits 64 y) (a .k) 0) e ∙ s .pre .2 .used) ∙ ap (λ (y : ℕ). y + 2 ^ a .k) e ∙ sym (g .ensures .1 (s .pre .2 .used)),
             record { «open» = refl; aside = refl; stacked = refl; asked = refl },
           ),
         ),
@@ -159,8 +159,8 @@ drop-slot-spec =
     sub-bytes
     remove-requires
     remove-requires-2
-    give-requires
-    mark-requires
+    set-requires
+    set-requires-2
     same-length
     same-length-2
     same-length-3

@@ -1,7 +1,7 @@
 -- `store_slots::find` meets its contract: the search of the paths finds what stands in the view. Assumes nothing.
 use Rattle.store_slots.proofs.Where.{slot-is}
 use Rattle.store_slots.specs.View.{SlotIs}
-use Rattle.store_runs.proofs.Laws.{length-cut}
+use Rattle.store_runs.proofs.RunLaws.{length-cut}
 use Rattle.store_runs.specs.Runs.{cut}
 use Rattle.store_runs.proofs.DigitLaws.{length-digits}
 use Rattle.store_runs.specs.Digits.{digits}

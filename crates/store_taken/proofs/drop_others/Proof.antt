@@ -15,8 +15,8 @@ low : (n m : ℕ) → n ≡ m → (m ≡ 0 → ⊥) → 1 ≤ n
 low zero m e z = absurd (z (sym e))
 low (suc n) m e z = omega arith
 
-take-requires : tie.Need-take-requires
-take-requires c κs =
+clear-requires : tie.Need-clear-requires
+clear-requires c κs =
     let s = c .before .before .before .before in
     let a = s .args in
     let t = s .pre .2 in
@@ -41,7 +41,7 @@ same-length-4 c = search needs
 returns : tie.Need-returns
 returns c =
     let d = c .before .before .before .before .before .before .before .before .drop-each in
-    let g = c .before .before .before .before .before .before .before .before .before .before .before .before .before .take in
+    let g = c .before .before .before .before .before .before .before .before .before .before .before .before .before .clear in
     let s = c .before .before .before .before .before .before .before .before .before .before .before .before .before .before .before .before .before .before in
     let a = s .args in
     let e = d .ensures in
@@ -67,4 +67,4 @@ returns c =
 pub drop-others-spec : {M : Type 1} → statement M
 drop-others-spec =
     tie.close
-    (tie.spec take-requires drop-each-requires same-length same-length-2 same-length-3 same-length-4 returns)
+    (tie.spec clear-requires drop-each-requires same-length same-length-2 same-length-3 same-length-4 returns)

@@ -8,23 +8,23 @@ use borrow.Author.Needs.{needs}
 use Rattle.store_taken.proofs.goes.Statement.{statement}
 use Rattle.store_taken.proofs.goes.Tie as tie
 
-is-free-requires : tie.Need-is-free-requires
-is-free-requires c κs = search needs
+is-set-requires : tie.Need-is-set-requires
+is-set-requires c κs = search needs
 
 returns : tie.Need-returns
 returns c =
     let a = c .before .before .args in
-    let t : eqb (getD (digits 64 (a .free)) (a .k) 0) 1 ≡ true = sym (c .before .is-free .ensures) ∙ c .if1 .taken in
+    let t : eqb (getD (digits 64 (a .free)) (a .k) 0) 1 ≡ true = sym (c .before .is-set .ensures) ∙ c .if1 .taken in
     ap (λ (x : Bool). not x && eqb (getD (digits 64 (a .gone)) (a .k) 0) 1) (sym t)
 
-is-free-requires-2 : tie.Need-is-free-requires-2
-is-free-requires-2 c κs = search needs
+is-set-requires-2 : tie.Need-is-set-requires-2
+is-set-requires-2 c κs = search needs
 
 returns-2 : tie.Need-returns-2
 returns-2 c =
     let a = c .before .before .before .args in
-    let t : eqb (getD (digits 64 (a .free)) (a .k) 0) 1 ≡ false = sym (c .before .before .is-free .ensures) ∙ c .before .if1 .left in
-    c .is-free2 .ensures ∙ ap (λ (x : Bool). not x && eqb (getD (digits 64 (a .gone)) (a .k) 0) 1) (sym t)
+    let t : eqb (getD (digits 64 (a .free)) (a .k) 0) 1 ≡ false = sym (c .before .before .is-set .ensures) ∙ c .before .if1 .left in
+    c .is-set2 .ensures ∙ ap (λ (x : Bool). not x && eqb (getD (digits 64 (a .gone)) (a .k) 0) 1) (sym t)
 
 pub goes-spec : {M : Type 1} → statement M
-goes-spec = tie.close (tie.spec is-free-requires returns is-free-requires-2 returns-2)
+goes-spec = tie.close (tie.spec is-set-requires returns is-set-requires-2 returns-2)

@@ -11,7 +11,7 @@ use Rattle.model.specs.Editor.{Editor as Model}
 use Rattle.names_compact.specs.Compact.{Run, unpack}
 use Rattle.store_slots.specs.View.{treeOf}
 use Rattle.store_slots.specs.declared.Record.{Record}
-use Rattle.store_slots.proofs.Calls.{searched-run, tree-run, tree-size, run-fits}
+use Rattle.store_slots.proofs.Changes.{searched-run, tree-run, tree-size, run-fits}
 use Rattle.store_taken.proofs.Ends.{closed-ordered}
 use Rattle.store_taken.proofs.Keeping.{ones-at, sole-same, sole-digit, sole-view, sole-laid}
 use borrow.Author.Needs.{needs}
@@ -63,8 +63,8 @@ mul-ns c =
 sub-ns : tie.Need-sub-ns
 sub-ns c = omega (arith, size (c .before .before .before .before .before .before .before .before .before .before .before .before .before .before), c .before .before .before .before .keep-run2 .ensures .1 .1)
 
-take-requires : tie.Need-take-requires
-take-requires c κs = let s = c .before .before .before .before .before .before .before .before .before .before .before .before .before .before .before .before .before .before .before .before .before .before in (s .pre .2 .low, ones-at (s .args .slot) (s .pre .2 .low))
+clear-requires : tie.Need-clear-requires
+clear-requires c κs = let s = c .before .before .before .before .before .before .before .before .before .before .before .before .before .before .before .before .before .before .before .before .before .before in (s .pre .2 .low, ones-at (s .args .slot) (s .pre .2 .low))
 
 same-length : tie.Need-same-length
 same-length c = search needs
@@ -83,7 +83,7 @@ returns c =
     let s = c .before .before .before .before .before .before .before .before .before .before .before .before .before .before .before .before .before .before .before .before .before .before .before in
     let a = s .args in
     let n = c .before .before .before .before .before .before .before .before .before .before .before .before .before .before .before in
-    let f = c .take .result in
+    let f = c .clear .result in
     let p = c .before .before .before .before .before .before .before .before .before .before .before .before .keep-run in
     let t = c .before .before .before .before .before .keep-run2 in
     let L = s .pre .0 in
@@ -91,11 +91,11 @@ returns c =
     let tl = t .kept .0 ∙ L .tlens-64 in
     let es = n .count .result in
     let q : Record = record { free = f; hidden = f; paths = p .result; trees = t .result; entries = es; names = t .result - es * (2 + a .width); «open» = 0; aside = 0; stacked = 0; asked = 0 } in
-    let same = sole-same (a .width) (a .r) (a .plens .now) (a .paths .now) (a .tlens .now) (a .trees .now) L (a .slot) (s .pre .2 .low) q (p .last .0) (p .last .1 .0) (t .last .0) (t .last .1 .0) (p .ensures .0) (t .ensures .0) pl tl (c .take .ensures) in
-    let digit = sole-digit (a .width) (a .r) (a .plens .now) (a .paths .now) (a .tlens .now) (a .trees .now) L (a .slot) (s .pre .2 .low) q (p .last .0) (p .last .1 .0) (t .last .0) (t .last .1 .0) (p .ensures .0) (t .ensures .0) pl tl (c .take .ensures) in
-    let view = sole-view (a .width) (a .r) (a .plens .now) (a .paths .now) (a .tlens .now) (a .trees .now) L (a .slot) (s .pre .2 .low) q (p .last .0) (p .last .1 .0) (t .last .0) (t .last .1 .0) (p .ensures .0) (t .ensures .0) pl tl (c .take .ensures) in
+    let same = sole-same (a .width) (a .r) (a .plens .now) (a .paths .now) (a .tlens .now) (a .trees .now) L (a .slot) (s .pre .2 .low) q (p .last .0) (p .last .1 .0) (t .last .0) (t .last .1 .0) (p .ensures .0) (t .ensures .0) pl tl (c .clear .ensures) in
+    let digit = sole-digit (a .width) (a .r) (a .plens .now) (a .paths .now) (a .tlens .now) (a .trees .now) L (a .slot) (s .pre .2 .low) q (p .last .0) (p .last .1 .0) (t .last .0) (t .last .1 .0) (p .ensures .0) (t .ensures .0) pl tl (c .clear .ensures) in
+    let view = sole-view (a .width) (a .r) (a .plens .now) (a .paths .now) (a .tlens .now) (a .trees .now) L (a .slot) (s .pre .2 .low) q (p .last .0) (p .last .1 .0) (t .last .0) (t .last .1 .0) (p .ensures .0) (t .ensures .0) pl tl (c .clear .ensures) in
     let laid =
-    sole-laid (a .width) (a .r) (a .plens .now) (a .paths .now) (a .tlens .now) (a .trees .now) L (a .slot) (s .pre .2 .low) q (p .last .0) (p .last .1 .0) (t .last .0) (t .last .1 .0) (p .ensures .0) (t .ensures .0) pl tl (c .take .ensures)
+    sole-laid (a .width) (a .r) (a .plens .now) (a .paths .now) (a .tlens .now) (a .trees .now) L (a .slot) (s .pre .2 .low) q (p .last .0) (p .last .1 .0) (t .last .0) (t .last .1 .0) (p .ensures .0) (t .ensures .0) pl tl (c .clear .ensures)
     (p .ensures .1 .0) (t .ensures .1 .0) (p .kept .1 .0) (t .kept .1 .0) (entries n) (omega (arith, size n, t .ensures .1 .1)) in (
       λ order. ap closed view,
       (
@@ -115,7 +115,7 @@ keep-only-spec =
     add-ns
     mul-ns
     sub-ns
-    take-requires
+    clear-requires
     same-length
     same-length-2
     same-length-3

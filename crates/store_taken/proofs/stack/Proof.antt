@@ -23,8 +23,8 @@ mul-order c = search needs
 slice-write-order : tie.Need-slice-write-order
 slice-write-order c = search needs
 
-give-requires : tie.Need-give-requires
-give-requires c κs = search needs
+set-requires : tie.Need-set-requires
+set-requires c κs = search needs
 
 same-length : tie.Need-same-length
 same-length c = search needs
@@ -33,11 +33,11 @@ returns : tie.Need-returns
 returns c =
     let s = c .before .before .before in
     let a = s .args in
-    let g = c .give in
+    let g = c .set in
     let q : Record = record { free = a .r .free; hidden = g .result; paths = a .r .paths; trees = a .r .trees; entries = a .r .entries; names = a .r .names; «open» = a .r .«open»; aside = a .r .aside; stacked = a .r .stacked + 1; asked = a .r .asked } in (
-      λ w plens paths tlens trees L. stack-going (a .r) (a .order .now) (s .pre .0 .0) (s .pre .0 .1) (a .slot) (s .pre .1) q refl (g .ensures .1) refl refl refl w plens paths tlens trees L,
+      λ w plens paths tlens trees L. stack-going (a .r) (a .order .now) (s .pre .0 .0) (s .pre .0 .1) (a .slot) (s .pre .1) q refl (g .ensures .0) refl refl refl w plens paths tlens trees L,
       (
-        λ hand b. stack-between (a .r) (a .order .now) hand b (a .slot) (s .pre .1) q refl (g .ensures .1) refl refl refl,
+        λ hand b. stack-between (a .r) (a .order .now) hand b (a .slot) (s .pre .1) q refl (g .ensures .0) refl refl refl,
         (record { free = refl; paths = refl; trees = refl; entries = refl; names = refl }, refl, refl, refl, refl),
       ),
     )
@@ -45,4 +45,4 @@ returns c =
 pub stack-spec : {M : Type 1} → statement M
 stack-spec =
     tie.close
-    (tie.spec add-n sub-order mul-order slice-write-order give-requires same-length returns)
+    (tie.spec add-n sub-order mul-order slice-write-order set-requires same-length returns)

@@ -13,16 +13,16 @@ use Rattle.editor_write_steps.proofs.links.parent_of.Tie as tie
 path-read : (x : tie.After-parent) → x .parent .result .now ≡ dir (pathOf (x .before .before .before .before .args .plens .now) (x .before .before .before .before .args .paths .now) (x .before .before .before .before .args .slot))
 path-read x =
     let s = x .before .before .before .before in
-    x .parent .ensures ∙ ap dir (x .before .run .ensures ∙ sym (cut-at (s .args .plens .now) (s .args .paths .now) (s .args .slot) (omega (arith, s .pre .1, s .pre .2))))
+    x .parent .ensures ∙ ap dir (x .before .path-in .ensures ∙ sym (cut-at (s .args .plens .now) (s .args .paths .now) (s .args .slot) (omega (arith, s .pre .1, s .pre .2))))
 
-run-requires : tie.Need-run-requires
-run-requires c κs = search needs
+path-in-requires : tie.Need-path-in-requires
+path-in-requires c κs = search needs
 
 parent-requires : tie.Need-parent-requires
 parent-requires c κs = search needs
 
-find-requires : tie.Need-find-requires
-find-requires c κs = search needs
+find-used-requires : tie.Need-find-used-requires
+find-used-requires c κs = search needs
 
 enum-known-k : tie.Need-enum-known-k
 enum-known-k c = search needs
@@ -37,7 +37,7 @@ returns c =
     let x = f .before in
     let s = x .before .before .before .before in
     let a = s .args in
-    let z = found-slot (a .r) (a .plens .now) (a .paths .now) (x .parent .result .now) (f .find .result) (k .k .given .0 .0) (s .pre .1) (f .find .ensures) (k .k .given .1) in
+    let z = found-slot (a .r) (a .plens .now) (a .paths .now) (x .parent .result .now) (f .find-used .result) (k .k .given .0 .0) (s .pre .1) (f .find-used .ensures) (k .k .given .1) in
     (z .0, z .1 ∙ path-read x)
 
 returns-2 : tie.Need-returns-2
@@ -46,9 +46,9 @@ returns-2 c =
     let x = f .before in
     let s = x .before .before .before .before in
     let a = s .args in
-    some-slot (a .r) (a .plens .now) (a .paths .now) (x .parent .result .now) (f .find .result) (s .pre .3 .0) (s .pre .1) (f .find .ensures) (c .enum-told .given .1) (s .pre .3 .1) (s .pre .3 .2 ∙ sym (path-read x))
+    some-slot (a .r) (a .plens .now) (a .paths .now) (x .parent .result .now) (f .find-used .result) (s .pre .3 .0) (s .pre .1) (f .find-used .ensures) (c .enum-told .given .1) (s .pre .3 .1) (s .pre .3 .2 ∙ sym (path-read x))
 
 pub parent-of-spec : {M : Type 1} → statement M
 parent-of-spec =
     tie.close
-    (tie.spec run-requires parent-requires find-requires enum-known-k enum-told returns returns-2)
+    (tie.spec path-in-requires parent-requires find-used-requires enum-known-k enum-told returns returns-2)

@@ -17,7 +17,7 @@ use Rattle.editor_write_steps.proofs.links.remove_entry.Tie as tie
 name-read : (x : tie.After-filename) → x .filename .result .now ≡ base (pathOf (x .before .before .before .before .before .before .before .args .plens .now) (x .before .before .before .before .before .before .before .args .paths .now) (x .before .before .before .before .before .before .before .args .slot))
 name-read x =
     let s = x .before .before .before .before .before .before .before in
-    x .filename .ensures ∙ ap base (x .before .run .ensures ∙ sym (cut-at (s .args .plens .now) (s .args .paths .now) (s .args .slot) (omega (arith, s .pre .0 .plens-64, s .pre .2 .1 .between .marks .used .0 .low))))
+    x .filename .ensures ∙ ap base (x .before .path-in .ensures ∙ sym (cut-at (s .args .plens .now) (s .args .paths .now) (s .args .slot) (omega (arith, s .pre .0 .plens-64, s .pre .2 .1 .between .marks .used .0 .low))))
 
 parent-of-requires : tie.Need-parent-of-requires
 parent-of-requires c κs =
@@ -26,8 +26,8 @@ parent-of-requires c κs =
     let (j, p) = parent-there (a .width) (a .r) (a .plens .now) (a .paths .now) (a .tlens .now) (a .trees .now) (s .pre .2 .0) (a .slot ∷ []) (pathOf (a .plens .now) (a .paths .now) (a .slot)) (s .pre .2 .1 .between) (s .pre .2 .1 .parent) in
     (s .pre .0 .paths-sound, s .pre .0 .plens-64, s .pre .2 .1 .between .marks .used .0 .low, (j, p .used, p .is .path))
 
-run-requires : tie.Need-run-requires
-run-requires c κs = search needs
+path-in-requires : tie.Need-path-in-requires
+path-in-requires c κs = search needs
 
 filename-requires : tie.Need-filename-requires
 filename-requires c κs = search needs
@@ -63,7 +63,7 @@ remove-entry-spec =
     tie.close
     (tie.spec
     parent-of-requires
-    run-requires
+    path-in-requires
     filename-requires
     remove-requires
     same-length

@@ -44,8 +44,8 @@ add-e c =
     let w = within (c .before) in
     omega (arith, w, c .before .before .before .before .before .before .before .fits .used .fits)
 
-is-free-requires : tie.Need-is-free-requires Inv-loop μ-loop
-is-free-requires c κs = search needs
+is-set-requires : tie.Need-is-set-requires Inv-loop μ-loop
+is-set-requires c κs = search needs
 
 sub-is-first : tie.Need-sub-is-first Inv-loop μ-loop
 sub-is-first c = omega arith
@@ -79,7 +79,7 @@ loop-again c =
     let r = t .before .before .before in
     let s = r .before .before .before in
     along-more (t .before .loop .inv) (s .pre .0) (s .pre .1) (t .loop-test .taken)
-    (⊎-elim (λ w. w .2 .ensures .yes (not-false _ (w .3 .left))) (λ w. r .repeated .ensures _ (t .loop-test .taken) (not-among _ _ _ (c .before .is-free .ensures) (t .loop-test .taken) (w .left))) (c .if2 .came))
+    (⊎-elim (λ w. w .2 .ensures .yes (not-false _ (w .3 .left))) (λ w. r .repeated .ensures _ (t .loop-test .taken) (not-among _ _ _ (c .before .is-set .ensures) (t .loop-test .taken) (w .left))) (c .if2 .came))
 
 returns-3 : tie.Need-returns-3 Inv-loop μ-loop
 returns-3 c = accepts (all-so (c .before .loop .inv .sofar) (c .loop-test .left))
@@ -96,7 +96,7 @@ apart-spec =
     mul-e
     shared-slice-read-e
     add-e
-    is-free-requires
+    is-set-requires
     sub-is-first
     part-is-first-start
     part-is-first-end

@@ -28,11 +28,11 @@ module _ (map k n m : ℕ) (h : k < 64) (b : Bool) (e : b ≡ eqb (getD (digits 
   both : not b ≡ false → n ≡ 0 → Decides (Blank (getD (digits 64 map) k 0) n m) (eqb m 0)
   both t z = record { yes = λ x. (λ u. (z, eqb-true m 0 x)); no = λ f. eq-eqb m 0 (f (λ y. omega (arith, free t)) .1) }
 
-is-free-requires : tie.Need-is-free-requires
-is-free-requires c κs = search needs
+is-set-requires : tie.Need-is-set-requires
+is-set-requires c κs = search needs
 
 returns : tie.Need-returns
-returns c = used _ _ _ _ (c .before .before .before .before .pre .0) _ (c .before .is-free .ensures) (c .if1 .taken)
+returns c = used _ _ _ _ (c .before .before .before .before .pre .0) _ (c .before .is-set .ensures) (c .if1 .taken)
 
 mul-if2 : tie.Need-mul-if2
 mul-if2 c = search needs
@@ -43,7 +43,7 @@ shared-slice-read-if2 c = search needs
 returns-2 : tie.Need-returns-2
 returns-2 c =
     let o = c .before .before in
-    long _ _ _ _ (o .before .before .before .before .pre .0) _ (o .before .is-free .ensures) (o .if1 .left) (c .if2 .taken)
+    long _ _ _ _ (o .before .before .before .before .pre .0) _ (o .before .is-set .ensures) (o .if1 .left) (c .if2 .taken)
 
 mul-result : tie.Need-mul-result
 mul-result c = search needs
@@ -54,7 +54,7 @@ shared-slice-read-result c = search needs
 returns-3 : tie.Need-returns-3
 returns-3 c =
     let o = c .before .before .before in
-    both _ _ _ _ (o .before .before .before .before .pre .0) _ (o .before .is-free .ensures) (o .if1 .left) (c .before .if2 .left)
+    both _ _ _ _ (o .before .before .before .before .pre .0) _ (o .before .is-set .ensures) (o .if1 .left) (c .before .if2 .left)
 
 pub blank-spec : {M : Type 1} → statement M
-blank-spec = tie.close (tie.spec is-free-requires returns mul-if2 shared-slice-read-if2 returns-2 mul-result shared-slice-read-result returns-3)
+blank-spec = tie.close (tie.spec is-set-requires returns mul-if2 shared-slice-read-if2 returns-2 mul-result shared-slice-read-result returns-3)

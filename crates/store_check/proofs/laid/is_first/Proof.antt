@@ -28,13 +28,13 @@ module _ (map k : ℕ) (ps : List Bytes) (b : Bool) (e : b ≡ eqb (getD (digits
   used p x h f q d =
       instead d (λ n u j m v r. n j m v (r ∙ sym q)) (λ n j m v r. n (digit-zero 64 map k h (eqb-false (getD (digits 64 map) k 0) 1 (sym e ∙ f))) j m v (r ∙ q))
 
-is-free-requires : tie.Need-is-free-requires
-is-free-requires c κs = search needs
+is-set-requires : tie.Need-is-set-requires
+is-set-requires c κs = search needs
 
 returns : tie.Need-returns
 returns c =
     let a = c .before .before .before .before .before .args in
-    free (a .map) (a .k) (cut (a .plens .now) (a .paths .now)) _ (c .before .is-free .ensures) (c .if1 .taken)
+    free (a .map) (a .k) (cut (a .plens .now) (a .paths .now)) _ (c .before .is-set .ensures) (c .if1 .taken)
 
 is-new-requires : tie.Need-is-new-requires
 is-new-requires c κs = search needs
@@ -43,7 +43,7 @@ returns-2 : tie.Need-returns-2
 returns-2 c =
     let s = c .before .before .before .before .before .before in
     let a = s .args in
-    used (a .map) (a .k) (cut (a .plens .now) (a .paths .now)) _ (c .before .before .is-free .ensures) (a .path .now) _ (s .pre .2) (c .before .if1 .left) (s .pre .3) (c .is-new .ensures)
+    used (a .map) (a .k) (cut (a .plens .now) (a .paths .now)) _ (c .before .before .is-set .ensures) (a .path .now) _ (s .pre .2) (c .before .if1 .left) (s .pre .3) (c .is-new .ensures)
 
 pub is-first-spec : {M : Type 1} → statement M
-is-first-spec = tie.close (tie.spec is-free-requires returns is-new-requires returns-2)
+is-first-spec = tie.close (tie.spec is-set-requires returns is-new-requires returns-2)

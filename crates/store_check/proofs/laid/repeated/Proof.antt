@@ -34,8 +34,8 @@ add-e c =
     let w = within (c .before) in
     omega (arith, w, c .before .before .before .before .before .fits .used .fits)
 
-is-free-requires : tie.Need-is-free-requires Inv-loop μ-loop
-is-free-requires c κs = search needs
+is-set-requires : tie.Need-is-set-requires Inv-loop μ-loop
+is-set-requires c κs = search needs
 
 sub-tag : tie.Need-sub-tag Inv-loop μ-loop
 sub-tag c = omega arith
@@ -57,14 +57,14 @@ mul-w c = omega (arith, c .tag .ensures .1)
 array-read-w : tie.Need-array-read-w Inv-loop μ-loop
 array-read-w c = omega (arith, c .tag .ensures .1, c .before .before .before .before .before .before .loop .inv .words)
 
-is-free-requires-2 : tie.Need-is-free-requires-2 Inv-loop μ-loop
-is-free-requires-2 c κs = omega arith
+is-set-requires-2 : tie.Need-is-set-requires-2 Inv-loop μ-loop
+is-set-requires-2 c κs = omega arith
 
-mark-requires : tie.Need-mark-requires Inv-loop μ-loop
-mark-requires c κs = c .before .before .before .before .before .before .before .loop-test .taken
+set-requires : tie.Need-set-requires Inv-loop μ-loop
+set-requires c κs = c .before .before .before .before .before .before .before .loop-test .taken
 
-give-requires : tie.Need-give-requires Inv-loop μ-loop
-give-requires c κs = (omega arith, not-among _ _ _ (c .before .is-free2 .ensures) (omega arith) (c .if2 .left))
+set-requires-2 : tie.Need-set-requires-2 Inv-loop μ-loop
+set-requires-2 c κs = omega arith
 
 mul-seen : tie.Need-mul-seen Inv-loop μ-loop
 mul-seen c = omega (arith, c .before .before .before .tag .ensures .1)
@@ -86,8 +86,8 @@ loop-again c =
     ⊎-elim
     (λ w. seen-as (seen-again (t .before .loop .inv) (s .pre .0) (s .pre .1) (t .loop-test .taken) _ _ run (w .2 .ensures .0) (w .5 .result) (among _ _ _ (w .3 .ensures) (w .4 .taken)) (w .5 .ensures .0)) (c .if1 .seen) (c .if1 .again) (w .6) (w .7))
     (⊎-elim
-    (λ w. seen-as (seen-new (t .before .loop .inv) (s .pre .0) (s .pre .1) (t .loop-test .taken) _ _ run (w .2 .ensures .0) (w .5 .result) (w .2 .ensures .1) (not-among _ _ _ (w .3 .ensures) (omega arith) (w .4 .left)) (w .5 .ensures .1)) (c .if1 .seen) (c .if1 .again) (w .6) (w .7))
-    (λ w. seen-as (seen-free (t .before .loop .inv) (s .pre .0) (s .pre .1) (t .loop-test .taken) (λ z. let o = among _ _ _ (c .before .is-free .ensures) (not-false _ (w .0 .left)) in omega (arith, z, o))) (c .if1 .seen) (c .if1 .again) (w .1) (w .2)))
+    (λ w. seen-as (seen-new (t .before .loop .inv) (s .pre .0) (s .pre .1) (t .loop-test .taken) _ _ run (w .2 .ensures .0) (w .5 .result) (w .2 .ensures .1) (not-among _ _ _ (w .3 .ensures) (omega arith) (w .4 .left)) (w .5 .ensures .0)) (c .if1 .seen) (c .if1 .again) (w .6) (w .7))
+    (λ w. seen-as (seen-free (t .before .loop .inv) (s .pre .0) (s .pre .1) (t .loop-test .taken) (λ z. let o = among _ _ _ (c .before .is-set .ensures) (not-false _ (w .0 .left)) in omega (arith, z, o))) (c .if1 .seen) (c .if1 .again) (w .1) (w .2)))
     (c .if1 .came)
 
 returns : tie.Need-returns Inv-loop μ-loop
@@ -103,16 +103,16 @@ repeated-spec =
     mul-e
     shared-slice-read-e
     add-e
-    is-free-requires
+    is-set-requires
     sub-tag
     part-tag-start
     part-tag-end
     tag-requires
     mul-w
     array-read-w
-    is-free-requires-2
-    mark-requires
-    give-requires
+    is-set-requires-2
+    set-requires
+    set-requires-2
     mul-seen
     array-write-seen
     add-k

@@ -11,13 +11,13 @@ below-requires c κs = search needs
 returns : tie.Need-returns
 returns c = (starts-first _ _, λ z. absurd (z refl))
 
-after-requires : tie.Need-after-requires
-after-requires c κs = search needs
+entry-after-requires : tie.Need-entry-after-requires
+entry-after-requires c κs = search needs
 
 returns-2 : tie.Need-returns-2
 returns-2 c =
     let b = c .before .before .below in
-    (c .after .ensures .0, λ z. child-of (c .after .ensures .1 z) (b .ensures (some-byte (b .result .now) (c .before .if1 .left))))
+    (c .entry-after .ensures .0, λ z. child-of (c .entry-after .ensures .1 z) (b .ensures (some-byte (b .result .now) (c .before .if1 .left))))
 
 pub after-child-spec : {M : Type 1} → statement M
-after-child-spec = tie.close (tie.spec below-requires returns after-requires returns-2)
+after-child-spec = tie.close (tie.spec below-requires returns entry-after-requires returns-2)

@@ -25,8 +25,8 @@ shared-slice-read-wide c = search needs
 wide-requires : tie.Need-wide-requires Inv-loop μ-loop
 wide-requires c κs = search needs
 
-turn-requires : tie.Need-turn-requires Inv-loop μ-loop
-turn-requires c κs = search needs
+rotate-xor-requires : tie.Need-rotate-xor-requires Inv-loop μ-loop
+rotate-xor-requires c κs = search needs
 
 add-i : tie.Need-add-i Inv-loop μ-loop
 add-i c = search needs
@@ -35,7 +35,7 @@ loop-less : tie.Need-loop-less Inv-loop μ-loop
 loop-less c = omega (arith, c .before .before .before .loop-test .taken)
 
 loop-again : tie.Need-loop-again Inv-loop μ-loop
-loop-again c = bytes-more (c .before .before .before .before .loop .inv) _ _ (c .before .before .before .loop-test .taken) (c .before .wide .ensures .0) (c .turn .ensures)
+loop-again c = bytes-more (c .before .before .before .before .loop .inv) _ _ (c .before .before .before .loop-test .taken) (c .before .wide .ensures .0) (c .rotate-xor .ensures)
 
 returns : tie.Need-returns Inv-loop μ-loop
 returns c = bytes-all (c .before .loop .inv) (c .loop-test .left)
@@ -50,7 +50,7 @@ by-bytes-spec =
     loop-holds
     shared-slice-read-wide
     wide-requires
-    turn-requires
+    rotate-xor-requires
     add-i
     loop-less
     loop-again

@@ -19,20 +19,20 @@ four p u₁ h₁ u₂ h₂ u₃ h₃ u₄ h₄ a b c d e f g h = more (more (mor
 mul-x : tie.Need-mul-x
 mul-x c = search needs
 
-cast-turn : tie.Need-cast-turn
-cast-turn c = search needs
+cast-rotate-xor : tie.Need-cast-rotate-xor
+cast-rotate-xor c = search needs
 
 word-at-requires : tie.Need-word-at-requires
 word-at-requires c κs = search needs
 
-turn-requires : tie.Need-turn-requires
-turn-requires c κs = search needs
+rotate-xor-requires : tie.Need-rotate-xor-requires
+rotate-xor-requires c κs = search needs
 
 word-at-requires-2 : tie.Need-word-at-requires-2
 word-at-requires-2 c κs = search needs
 
-turn-requires-2 : tie.Need-turn-requires-2
-turn-requires-2 c κs = search needs
+rotate-xor-requires-2 : tie.Need-rotate-xor-requires-2
+rotate-xor-requires-2 c κs = search needs
 
 sub-word-at : tie.Need-sub-word-at
 sub-word-at c = search needs
@@ -43,8 +43,8 @@ sub-word-at-2 c = search needs
 word-at-requires-3 : tie.Need-word-at-requires-3
 word-at-requires-3 c κs = search needs
 
-turn-requires-3 : tie.Need-turn-requires-3
-turn-requires-3 c κs = search needs
+rotate-xor-requires-3 : tie.Need-rotate-xor-requires-3
+rotate-xor-requires-3 c κs = search needs
 
 sub-word-at-3 : tie.Need-sub-word-at-3
 sub-word-at-3 c = search needs
@@ -52,32 +52,32 @@ sub-word-at-3 c = search needs
 word-at-requires-4 : tie.Need-word-at-requires-4
 word-at-requires-4 c κs = search needs
 
-turn-requires-4 : tie.Need-turn-requires-4
-turn-requires-4 c κs = search needs
+rotate-xor-requires-4 : tie.Need-rotate-xor-requires-4
+rotate-xor-requires-4 c κs = search needs
 
 returns : tie.Need-returns
 returns c =
     let three = c .before .before in
     let two = three .before .before in
     let one = two .before .before in
-    four (one .before .before .before .args .path .now) _ _ _ _ _ _ _ _ (one .before .word-at .ensures) (one .turn .ensures) (two .before .word-at2 .ensures) (two .turn2 .ensures) (three .before .word-at3 .ensures) (three .turn3 .ensures)
-    (c .before .word-at4 .ensures) (c .turn4 .ensures)
+    four (one .before .before .before .args .path .now) _ _ _ _ _ _ _ _ (one .before .word-at .ensures) (one .rotate-xor .ensures) (two .before .word-at2 .ensures) (two .rotate-xor2 .ensures) (three .before .word-at3 .ensures) (three .rotate-xor3 .ensures)
+    (c .before .word-at4 .ensures) (c .rotate-xor4 .ensures)
 
 pub by-four-spec : {M : Type 1} → statement M
 by-four-spec =
     tie.close
     (tie.spec
     mul-x
-    cast-turn
+    cast-rotate-xor
     word-at-requires
-    turn-requires
+    rotate-xor-requires
     word-at-requires-2
-    turn-requires-2
+    rotate-xor-requires-2
     sub-word-at
     sub-word-at-2
     word-at-requires-3
-    turn-requires-3
+    rotate-xor-requires-3
     sub-word-at-3
     word-at-requires-4
-    turn-requires-4
+    rotate-xor-requires-4
     returns)

@@ -25,8 +25,8 @@ loop-holds c = words-none _ (c .before .pre)
 word-at-requires : tie.Need-word-at-requires Inv-loop μ-loop
 word-at-requires c κs = omega (arith, c .loop-test .taken, c .before .before .before .pre)
 
-turn-requires : tie.Need-turn-requires Inv-loop μ-loop
-turn-requires c κs = search needs
+rotate-xor-requires : tie.Need-rotate-xor-requires Inv-loop μ-loop
+rotate-xor-requires c κs = search needs
 
 add-i : tie.Need-add-i Inv-loop μ-loop
 add-i c = search needs
@@ -35,16 +35,16 @@ loop-less : tie.Need-loop-less Inv-loop μ-loop
 loop-less c = omega (arith, c .before .before .loop-test .taken)
 
 loop-again : tie.Need-loop-again Inv-loop μ-loop
-loop-again c = words-more (c .before .before .before .loop .inv) _ _ (c .before .before .loop-test .taken) (c .before .word-at .ensures) (c .turn .ensures)
+loop-again c = words-more (c .before .before .before .loop .inv) _ _ (c .before .before .loop-test .taken) (c .before .word-at .ensures) (c .rotate-xor .ensures)
 
 word-at-requires-2 : tie.Need-word-at-requires-2 Inv-loop μ-loop
 word-at-requires-2 c κs = omega (arith, c .before .before .before .pre)
 
-turn-requires-2 : tie.Need-turn-requires-2 Inv-loop μ-loop
-turn-requires-2 c κs = search needs
+rotate-xor-requires-2 : tie.Need-rotate-xor-requires-2 Inv-loop μ-loop
+rotate-xor-requires-2 c κs = search needs
 
 returns : tie.Need-returns Inv-loop μ-loop
-returns c = words-all (c .before .before .before .loop .inv) _ _ (c .before .before .loop-test .left) (c .before .word-at2 .ensures) (c .turn2 .ensures)
+returns c = words-all (c .before .before .before .loop .inv) _ _ (c .before .before .loop-test .left) (c .before .word-at2 .ensures) (c .rotate-xor2 .ensures)
 
 pub by-words-spec : {M : Type 1} → statement M
 by-words-spec =
@@ -56,10 +56,10 @@ by-words-spec =
     cast-h
     loop-holds
     word-at-requires
-    turn-requires
+    rotate-xor-requires
     add-i
     loop-less
     loop-again
     word-at-requires-2
-    turn-requires-2
+    rotate-xor-requires-2
     returns)

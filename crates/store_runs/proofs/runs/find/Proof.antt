@@ -12,7 +12,7 @@ use Rattle.store_runs.specs.declared.runs.Found.the-variants.{At, Nothin
 use Rattle.store_runs.specs.Moves.{part}
 use Rattle.store_runs.specs.Runs.{total, cut, Sound}
 use Rattle.store_runs.specs.Find.{hit, findFrom, pick}
-use Rattle.store_runs.proofs.Laws.{length-cut, total-within, total-more}
+use Rattle.store_runs.proofs.RunLaws.{length-cut, total-within, total-more}
 use Rattle.store_runs.proofs.FindLaws.{find-step, find-end, cut-at}
 use Rattle.store_runs.proofs.runs.find.Statement.{statement}
 use Rattle.store_runs.proofs.runs.find.Tie as tie

@@ -6,7 +6,7 @@ use native.Mathlib.Omega.{arith}
 use lib.ListN.{length, take, getD}
 use Rattle.store_runs.specs.Moves.{over, inserted}
 use Rattle.store_runs.specs.Runs.{total}
-use Rattle.store_runs.proofs.Laws.{total-within, edited-sum, insert-view}
+use Rattle.store_runs.proofs.RunLaws.{total-within, edited-sum, insert-view}
 use Rattle.store_runs.proofs.runs.insert.Statement.{statement}
 use Rattle.store_runs.proofs.runs.insert.Tie as tie
 

@@ -52,13 +52,13 @@ returns c =
     let a = c .before .before .before .before .before .args in
     other (a .bytes .now) (a .path .now) (a .a) (a .n) (getD (digits 64 (a .free)) (a .k) 0) _ (c .before .same-bytes .ensures) (c .if1 .taken)
 
-is-free-requires : tie.Need-is-free-requires
-is-free-requires c κs = search needs
+is-set-requires : tie.Need-is-set-requires
+is-set-requires c κs = search needs
 
 returns-2 : tie.Need-returns-2
 returns-2 c =
     let a = c .before .before .before .before .before .before .args in
-    alike (a .bytes .now) (a .path .now) (a .a) (a .n) (getD (digits 64 (a .free)) (a .k) 0) _ (c .before .before .same-bytes .ensures) _ (c .before .if1 .left) (c .is-free .ensures)
+    alike (a .bytes .now) (a .path .now) (a .a) (a .n) (getD (digits 64 (a .free)) (a .k) 0) _ (c .before .before .same-bytes .ensures) _ (c .before .if1 .left) (c .is-set .ensures)
 
 pub is-at-spec : {M : Type 1} → statement M
-is-at-spec = tie.close (tie.spec add-e sub-same-bytes part-same-bytes-start part-same-bytes-end same-bytes-requires returns is-free-requires returns-2)
+is-at-spec = tie.close (tie.spec add-e sub-same-bytes part-same-bytes-start part-same-bytes-end same-bytes-requires returns is-set-requires returns-2)

@@ -6,7 +6,7 @@ use native.Mathlib.Omega.{arith}
 use lib.ListN.{take, getD}
 use Rattle.store_runs.specs.Moves.{over, removed}
 use Rattle.store_runs.specs.Runs.{total}
-use Rattle.store_runs.proofs.Laws.{total-within, edited-sum, remove-view}
+use Rattle.store_runs.proofs.RunLaws.{total-within, edited-sum, remove-view}
 use Rattle.store_runs.proofs.runs.remove.Statement.{statement}
 use Rattle.store_runs.proofs.runs.remove.Tie as tie
 

@@ -5,7 +5,7 @@ use Prim.Native.Nat.{ℕ, _+_, _-_, _≤_}
 use native.Mathlib.Omega.{arith}
 use lib.ListN.{take, drop, getD}
 use Rattle.store_runs.specs.Runs.{total}
-use Rattle.store_runs.proofs.Laws.{total-within}
+use Rattle.store_runs.proofs.RunLaws.{total-within}
 use Rattle.store_runs.proofs.runs.run.Statement.{statement}
 use Rattle.store_runs.proofs.runs.run.Tie as tie
 

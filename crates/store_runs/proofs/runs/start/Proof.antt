@@ -4,7 +4,7 @@ use Prim.Native.Nat.{ℕ, _-_, _≤_}
 use native.Mathlib.Omega.{arith}
 use lib.ListN.{take}
 use Rattle.store_runs.specs.Runs.{total}
-use Rattle.store_runs.proofs.Laws.{total-more, total-within}
+use Rattle.store_runs.proofs.RunLaws.{total-more, total-within}
 use Rattle.store_runs.proofs.runs.start.Statement.{statement}
 use Rattle.store_runs.proofs.runs.start.Tie as tie
 

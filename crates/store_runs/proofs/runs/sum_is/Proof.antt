@@ -7,7 +7,7 @@ use native.Mathlib.Omega.{arith}
 use lib.ListN.{length, take}
 use lib.Seq.{take-all}
 use Rattle.store_runs.specs.Runs.{total}
-use Rattle.store_runs.proofs.Laws.{total-more, total-within, eqb-shift}
+use Rattle.store_runs.proofs.RunLaws.{total-more, total-within, eqb-shift}
 use Rattle.store_runs.proofs.runs.sum_is.Statement.{statement}
 use Rattle.store_runs.proofs.runs.sum_is.Tie as tie
 
