@@ -6,6 +6,7 @@ ghost use Rattle.editor_walk.specs.Lookups.{lookedAs};
 ghost use Rattle.editor.specs.Lent.{lent, Good};
 ghost use Rattle.adapter.specs.Reads.{Tells, Gives, Gets};
 use editor_walk::look::Looked;
+use names::limits::WIDTH;
 use names::mode::Mode;
 use store_slots::Record;
 
@@ -43,7 +44,7 @@ pub extern "C" fn tree_editor_get(
         (lent ed (now (plens .entry)) (now (paths .entry)) (now (tlens .entry)) (now (trees .entry)) (now (order .entry)))
         (now (id .entry)) r (now (id .exit)) ⌝ }
 {
-    if id.len() < 20 {
+    if id.len() < WIDTH {
         return 255;
     }
     let found = editor::look::get(ed, plens, paths, tlens, trees, order, prefix, path);

@@ -1,6 +1,7 @@
 // Reading the open request, for C.
 ghost use Rattle.editor.specs.Lent.{lent};
 ghost use Rattle.adapter_numbers.specs.Asks.{slices, Asks};
+use names::limits::PATH;
 use store_slots::Record;
 
 // Writes the raw tree that is requested and the path it belongs at to the fronts of the slices.
@@ -23,7 +24,7 @@ pub extern "C" fn tree_editor_request(
     if lens.len() < 2 {
         return 255;
     }
-    if path.len() < 1024 {
+    if path.len() < PATH {
         return 255;
     }
     let a = editor_write::request::request(ed, plens, paths, tlens, trees, order, out);

@@ -10,6 +10,7 @@ ghost use Rattle.adapter_numbers.specs.Numbers.{Numbers, putBy};
 use crate::Numbered;
 use editor_terms::edit::Edit;
 use editor_terms::edit::RemoveKind;
+use names::limits::WIDTH;
 use names::mode::Mode;
 use names::mode::ModeRead;
 use store_slots::Record;
@@ -76,7 +77,7 @@ pub fn upsert(
         (lent ed (now (plens .entry)) (now (paths .entry)) (now (tlens .entry)) (now (trees .entry)) (now (order .entry))) (r .code)
         (lent (r .ed) (now (plens .exit)) (now (paths .exit)) (now (tlens .exit)) (now (trees .exit)) (now (order .exit))) ⌝ }
 {
-    if id.len() != 20 {
+    if id.len() != WIDTH {
         return Numbered { code: 255, ed };
     }
     match (Mode { bits: mode }).kind() {

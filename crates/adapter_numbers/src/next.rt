@@ -3,16 +3,18 @@ ghost use Rattle.store_check.specs.Decides.{Decides};
 ghost use Rattle.editor.specs.Lent.{lent};
 ghost use Rattle.adapter_numbers.specs.Asks.{slices, Whole, AnswersAndAsks};
 use crate::Numbered;
+use names::limits::PATH;
+use names::limits::WIDTH;
 use store_slots::Record;
 
 // Whether the id has 20 bytes, and the slices have room for any path, two lengths and a number.
 fn arguments_ok(id: &[u8], path: &[u8], lens: &[usize], next: &[u8]) -> bool
     ensures { λ r. ⌜ Decides (Whole (now (id .entry)) (now (path .entry)) (now (lens .entry)) (now (next .entry))) r ⌝ }
 {
-    if id.len() != 20 {
+    if id.len() != WIDTH {
         return false;
     }
-    if path.len() < 1024 {
+    if path.len() < PATH {
         return false;
     }
     if lens.len() < 2 {

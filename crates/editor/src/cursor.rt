@@ -11,11 +11,12 @@ ghost use Rattle.editor.specs.Lent.{lent, Does};
 ghost use Rattle.editor.specs.Looks.{standing, prefixOf, cursorAt};
 use editor_terms::code::Code;
 use editor_terms::edit::Edit;
+use names::limits::PATH;
 use names::mode::EntryKind;
 use store_slots::Record;
 
 pub struct Cursor {
-    pub prefix: [u8; 1024],
+    pub prefix: [u8; PATH],
     pub len: usize,
 }
 
@@ -23,8 +24,8 @@ pub struct Cursor {
 pub fn at(path: &[u8]) -> Cursor
     ensures { λ r. ⌜ (r .len ≤ 1024) × (take (r .len) (r .prefix) ≡ standing (now (path .entry))) × (r ≡ cursorAt (standing (now (path .entry)))) ⌝ }
 {
-    let mut prefix = [0u8; 1024];
-    if 1024 < path.len() {
+    let mut prefix = [0u8; PATH];
+    if PATH < path.len() {
         return Cursor { prefix, len: 0 };
     }
     let len = names::write::put(&mut prefix, 0, path);
@@ -42,7 +43,7 @@ pub fn to_cursor() -> Cursor
 pub fn sound(cursor: Cursor) -> Cursor
     ensures { λ r. ⌜ (r .len ≤ 1024) × (take (r .len) (r .prefix) ≡ prefixOf cursor) ⌝ }
 {
-    if cursor.len <= 1024 {
+    if cursor.len <= PATH {
         return cursor;
     }
     at(b"\0")

@@ -17,6 +17,10 @@ use crate::ready::Ready;
 use editor_terms::code::Code;
 use editor_terms::edit::Edit;
 use editor_walk::apply::Answer;
+use names::limits::FULL;
+use names::limits::PATH_BYTES;
+use names::limits::SLOTS;
+use names::limits::TREE_BYTES;
 use store_slots::Record;
 
 // An edit at a path below a prefix, over slices as long as a store, which hold an editor.
@@ -62,7 +66,7 @@ fn edit_held(
             ed,
         },
         Ready::In(slot) => {
-            let mut buf = [0u8; 1280];
+            let mut buf = [0u8; FULL];
             let n = names::full::put_full(&mut buf, prefix, path);
             editor_walk::apply::settle(
                 ed,
@@ -111,10 +115,10 @@ pub fn edit(
     }
     edit_held(
         ed,
-        &mut plens[..64],
-        &mut paths[..8192],
-        &mut tlens[..64],
-        &mut trees[..38912],
+        &mut plens[..SLOTS],
+        &mut paths[..PATH_BYTES],
+        &mut tlens[..SLOTS],
+        &mut trees[..TREE_BYTES],
         ids,
         ends,
         raws,

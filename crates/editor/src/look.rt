@@ -11,6 +11,10 @@ ghost use Rattle.editor.specs.Looks.{Looks};
 use crate::ready::Ready;
 use editor_terms::code::Code;
 use editor_walk::look::Looked;
+use names::limits::FULL;
+use names::limits::PATH_BYTES;
+use names::limits::SLOTS;
+use names::limits::TREE_BYTES;
 use store_slots::Record;
 
 // The entry at a path below a prefix, over slices as long as a store, which hold an editor.
@@ -34,7 +38,7 @@ fn look_held(
         Ready::Stale => Looked::Refused(Code::CursorStale),
         Ready::Refused => Looked::Refused(Code::PathRefused),
         Ready::In(slot) => {
-            let mut buf = [0u8; 1280];
+            let mut buf = [0u8; FULL];
             let n = names::full::put_full(&mut buf, prefix, path);
             editor_walk::look::look(ed, plens, paths, tlens, trees, &buf[..n], path, slot)
         }
@@ -59,10 +63,10 @@ pub fn get(
     }
     look_held(
         ed,
-        &plens[..64],
-        &paths[..8192],
-        &tlens[..64],
-        &trees[..38912],
+        &plens[..SLOTS],
+        &paths[..PATH_BYTES],
+        &tlens[..SLOTS],
+        &trees[..TREE_BYTES],
         prefix,
         path,
     )

@@ -10,7 +10,11 @@ ghost use Rattle.editor.specs.Lent.{lent, Does};
 ghost use Rattle.editor_write.specs.Steps.{HoldsExactly, Made, Answers, Starts};
 use editor_terms::code::Code;
 use editor_walk::apply::Answer;
-use store_runs::runs::Found;
+use names::limits::PATH_BYTES;
+use names::limits::SLOTS;
+use names::limits::TREE_BYTES;
+use names::limits::WIDTH;
+use store_slots::Found;
 use store_slots::Record;
 
 // Begins a write at the cached tree in a slot, over slices that hold an editor with none open. `from` is 1 where it is the root's and 2 where it is a cursor's.
@@ -30,7 +34,7 @@ fn begin_slot(
 {
     let empty = Record { open: from, ..ed };
     let one = store_taken::stack(empty, order, slot);
-    let next = editor_write_steps::turn::onward(one, plens, paths, tlens, trees, order, 20);
+    let next = editor_write_steps::turn::onward(one, plens, paths, tlens, trees, order, WIDTH);
     let two = next.editor;
     store_taken::ask(two, next.slot)
 }
@@ -94,11 +98,11 @@ fn begin_from(
     }
     begin_held(
         ed,
-        &mut plens[..64],
-        &mut paths[..8192],
-        &mut tlens[..64],
-        &mut trees[..38912],
-        &mut order[..64],
+        &mut plens[..SLOTS],
+        &mut paths[..PATH_BYTES],
+        &mut tlens[..SLOTS],
+        &mut trees[..TREE_BYTES],
+        &mut order[..SLOTS],
         prefix,
         from,
     )
