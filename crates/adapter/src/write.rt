@@ -46,7 +46,7 @@ pub extern "C" fn tree_editor_begin_at(
     d.code
 }
 
-// Answers the open request with the id of the tree that was requested: 14 where it has not 20 bytes.
+// Answers the open request with the id of the tree that was requested: 255 where it has not 20 bytes.
 #[no_mangle]
 pub extern "C" fn tree_editor_answer(
     ed: &mut Record,
@@ -66,7 +66,7 @@ pub extern "C" fn tree_editor_answer(
     d.code
 }
 
-// Answers the open request, and reads the one that is open then to the fronts of the slices, with the number of the reading: 14 where the id has not
+// Answers the open request, and reads the one that is open then to the fronts of the slices, with the number of the reading: 255 where the id has not
 // 20 bytes, or where there is no room.
 #[no_mangle]
 pub extern "C" fn tree_editor_answer_and_request(

@@ -17,7 +17,7 @@ use Rattle.store_slots.specs.View.{writeOf}
 use Rattle.editor_terms.specs.Answers.{codeNumber}
 use Rattle.editor_terms.specs.declared.code.Code.{Code}
 use Rattle.editor_terms.specs.declared.code.Code.the-variants.{Done, EmptyComponent, TreeNotFound, TreeDamaged, NotALeaf, NoRoom, PathRefused, BadTable, CursorStale, WriteOpen, NoWriteOpen, OutputShort, BadRoot, StoreDamaged}
-use Rattle.editor.specs.Lent.{Lent, Good, viewed}
+use Rattle.editor.specs.Lent.{Lent, Good, viewed, Still}
 use Rattle.editor.specs.Looks.{cursorAt, prefixOf}
 use Rattle.editor.specs.declared.cursor.Cursor.{Cursor}
 use Rattle.editor_write.specs.Requests.{shownAs, shownNumber, shownLength, placeIn, Requests}
@@ -131,7 +131,7 @@ module _ (s : Lent) (code : Code) (len : ℕ) (place : Cursor) (out out′ path 
   same e h = ap (λ (o : Bytes). slices o path′ lens′) e ∙ ap (λ (p : Bytes). slices out p lens′) (h .0) ∙ ap (λ (l : List ℕ). slices out path l) (h .1)
 
   -- what is shown decides the slices
-  by-shown : (x : Shown) (p : Bytes) → shownAs code len out′ ≡ x → drop len out′ ≡ drop len out → (5 ≤ codeNumber code → out′ ≡ out) → codeNumber code ≡ shownNumber x → len ≡ shownLength x → prefixOf place ≡ p → after ≡ readTo x p before
+  by-shown : (x : Shown) (p : Bytes) → shownAs code len out′ ≡ x → drop len out′ ≡ drop len out → (Still (codeNumber code) → out′ ≡ out) → codeNumber code ≡ shownNumber x → len ≡ shownLength x → prefixOf place ≡ p → after ≡ readTo x p before
   by-shown (shown b) p is rest kept number long at =
       let d = t .done number in
       let f : take len out′ ≡ b = ap front (sym (done-is code len out′ number) ∙ is) in
@@ -164,7 +164,7 @@ module _ (s : Lent) (code : Code) (len : ℕ) (place : Cursor) (out out′ path 
       }
 
 -- slices without room
-pub no-room : (s : Lent) (d : Slices) → (Room d → ⊥) → Asks s d 14 d
+pub no-room : (s : Lent) (d : Slices) → (Room d → ⊥) → Asks s d 255 d
 no-room s d h = record { bad = λ z. (refl, refl); good = λ r. absurd (h r) }
 
 pub asks : (s : Lent) (d : Slices) (n : ℕ) (q : Slices) → Room d → Reads s d n q → Asks s d n q

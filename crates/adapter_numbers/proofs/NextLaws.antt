@@ -1,4 +1,4 @@
--- An answer and the reading after it, together: 14 where the arguments are not whole, and else the two calls one after the other. Assumes nothing.
+-- An answer and the reading after it, together: 255 where the arguments are not whole, and else the two calls one after the other. Assumes nothing.
 use Prim.Native.Nat.{ℕ}
 use mathlib.Core.Path.{_≡_, refl, subst}
 use lib.ListN.{take, drop, set}
@@ -12,7 +12,7 @@ use Rattle.adapter_numbers.specs.Asks.{Slices, Whole, Reads, AnswersAndA
 use Rattle.adapter_numbers.proofs.NumberLaws.{whole-id}
 
 module _ (id : Bytes) (s : Lent) (d : Slices) (next : Bytes) where
-  pub not-whole : (Whole id (d .path) (d .lens) next → ⊥) → AnswersAndAsks id s d next 14 s d next
+  pub not-whole : (Whole id (d .path) (d .lens) next → ⊥) → AnswersAndAsks id s d next 255 s d next
   not-whole h = record { bad = λ z. (refl, refl, refl, refl); good = λ w. absurd (h w) }
 
   pub turns : (n m : ℕ) (q : Lent) (e : Slices) (i : Id) → Whole id (d .path) (d .lens) next → idBytes i ≡ take 20 (drop 0 id) → Does (answered sha1 (idBytes i)) s n q → Reads q d m e

@@ -38,16 +38,16 @@ pub whole-id : (i : Id) (id : Bytes) → length id ≡ 20 → idBytes i ≡ take
 whole-id i id l e = e ∙ take-all 20 id (omega (arith, l))
 
 module _ (T : Table) (bits : ℕ) (id prefix path : Bytes) where
-  pub bad-id : (s : Lent) → (length id ≡ 20 → ⊥) → Numbers (putBy T bits id prefix path) s 14 s
-  bad-id s h = subst (λ (b : Bool). Numbers (cond b (putAs T id prefix path (modeOfBits bits)) none) s 14 s) (sym (ne-eqb (length id) 20 h)) (refl, refl)
+  pub bad-id : (s : Lent) → (length id ≡ 20 → ⊥) → Numbers (putBy T bits id prefix path) s 255 s
+  bad-id s h = subst (λ (b : Bool). Numbers (cond b (putAs T id prefix path (modeOfBits bits)) none) s 255 s) (sym (ne-eqb (length id) 20 h)) (refl, refl)
 
   -- with 20 bytes the mode decides
   by-mode : (s : Lent) (n : ℕ) (q : Lent) (o : Option Mode) → length id ≡ 20 → o ≡ modeOfBits bits → Numbers (putAs T id prefix path o) s n q → Numbers (putBy T bits id prefix path) s n q
   by-mode s n q o l e h =
       subst (λ (b : Bool). Numbers (cond b (putAs T id prefix path (modeOfBits bits)) none) s n q) (sym (eq-eqb (length id) 20 l)) (subst (λ (p : Option Mode). Numbers (putAs T id prefix path p) s n q) e h)
 
-  pub bad-mode : (s : Lent) (r : ModeRead) → length id ≡ 20 → modeRead r ≡ modeOfBits bits → r ≡ Refused → Numbers (putBy T bits id prefix path) s 14 s
-  bad-mode s r l e k = by-mode s 14 s none l (sym (ap modeRead k) ∙ e) (refl, refl)
+  pub bad-mode : (s : Lent) (r : ModeRead) → length id ≡ 20 → modeRead r ≡ modeOfBits bits → r ≡ Refused → Numbers (putBy T bits id prefix path) s 255 s
+  bad-mode s r l e k = by-mode s 255 s none l (sym (ap modeRead k) ∙ e) (refl, refl)
 
   pub good-put : (s : Lent) (n : ℕ) (q : Lent) (r : ModeRead) (kind : EntryKind) (i : Id) → length id ≡ 20 → modeRead r ≡ modeOfBits bits → r ≡ Kind kind → idBytes i ≡ take 20 (drop 0 id)
       → Does (edited sha1 T (upsert (asMode kind) (idBytes i)) false prefix path) s n q → Numbers (putBy T bits id prefix path) s n q
@@ -55,8 +55,8 @@ module _ (T : Table) (bits : ℕ) (id prefix path : Bytes) where
       by-mode s n q (some (asMode kind)) l (sym (ap modeRead k) ∙ e) (subst (λ (x : Bytes). Does (edited sha1 T (upsert (asMode kind) x) false prefix path) s n q) (whole-id i id l w) d)
 
 module _ (id : Bytes) where
-  pub bad-answer : (s : Lent) → (length id ≡ 20 → ⊥) → Numbers (answerBy id) s 14 s
-  bad-answer s h = subst (λ (b : Bool). Numbers (cond b (some (answered sha1 id)) none) s 14 s) (sym (ne-eqb (length id) 20 h)) (refl, refl)
+  pub bad-answer : (s : Lent) → (length id ≡ 20 → ⊥) → Numbers (answerBy id) s 255 s
+  bad-answer s h = subst (λ (b : Bool). Numbers (cond b (some (answered sha1 id)) none) s 255 s) (sym (ne-eqb (length id) 20 h)) (refl, refl)
 
   pub good-answer : (s : Lent) (n : ℕ) (q : Lent) (i : Id) → length id ≡ 20 → idBytes i ≡ take 20 (drop 0 id) → Does (answered sha1 (idBytes i)) s n q → Numbers (answerBy id) s n q
   good-answer s n q i l w d =

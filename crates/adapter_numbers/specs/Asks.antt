@@ -40,9 +40,9 @@ pub record Reads (s : Lent) (d : Slices) (n : ℕ) (q : Slices) : Type 0 where
   pub done : (n ≡ 13 → ⊥) →
       Good s × (n ≡ shownNumber (show (length (d .out)) (viewed s))) × (q ≡ readTo (show (length (d .out)) (viewed s)) (placeIn (show (length (d .out)) (viewed s)) (requested (viewed s))) d)
 
--- 14 is for slices without room, and nothing is looked at then
+-- 255 is for slices without room, and nothing is looked at then
 pub record Asks (s : Lent) (d : Slices) (n : ℕ) (q : Slices) : Type 0 where
-  pub bad : (Room d → ⊥) → (n ≡ 14) × (q ≡ d)
+  pub bad : (Room d → ⊥) → (n ≡ 255) × (q ≡ d)
   pub good : Room d → Reads s d n q
 
 -- the arguments of an answer that also reads the next request: an id, and room for the request and for the number of its reading
@@ -59,9 +59,9 @@ pub record Turns (id : Bytes) (s : Lent) (d : Slices) (next : Bytes) (n : ℕ) (
   pub reads : Reads q d number e
   pub given : next′ ≡ set next 0 number
 
--- 14 is for arguments that are not whole, and nothing is looked at then
+-- 255 is for arguments that are not whole, and nothing is looked at then
 pub record AnswersAndAsks (id : Bytes) (s : Lent) (d : Slices) (next : Bytes) (n : ℕ) (q : Lent) (e : Slices) (next′ : Bytes) : Type 0 where
-  pub bad : (Whole id (d .path) (d .lens) next → ⊥) → (n ≡ 14) × (q ≡ s) × (e ≡ d) × (next′ ≡ next)
+  pub bad : (Whole id (d .path) (d .lens) next → ⊥) → (n ≡ 255) × (q ≡ s) × (e ≡ d) × (next′ ≡ next)
   pub good : Whole id (d .path) (d .lens) next → Turns id s d next n q e next′
 
 -- the length that an answer says is needed

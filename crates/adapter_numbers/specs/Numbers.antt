@@ -16,9 +16,9 @@ use Rattle.model.specs.Write.{answered}
 use Rattle.names.specs.Bits.{modeOfBits}
 use Rattle.editor.specs.Lent.{Lent, Does}
 
--- A call whose arguments mean f does what f says; one whose arguments mean nothing gives 14, looks at nothing else and leaves each lent byte.
+-- A call whose arguments mean f does what f says; one whose arguments mean nothing gives 255, looks at nothing else and leaves each lent byte.
 abbrev pub Numbers : Option (Model → Answer) → Lent → ℕ → Lent → Type 0
-Numbers none s code q = (code ≡ 14) × (q ≡ s)
+Numbers none s code q = (code ≡ 255) × (q ≡ s)
 Numbers (some f) s code q = Does f s code q
 
 -- the upsert of an entry with this mode, where there is one

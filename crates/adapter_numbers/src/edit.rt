@@ -1,6 +1,5 @@
 // Edits, and the opening of a cursor.
 ghost use mathlib.Core.Bool.{false};
-ghost use mathlib.Core.List.{[]};
 ghost use Rattle.model.specs.Formats.{sha1};
 ghost use Rattle.model.specs.Calls as model;
 ghost use Rattle.model.specs.Walk as walk;
@@ -11,12 +10,13 @@ ghost use Rattle.adapter_numbers.specs.Numbers.{Numbers, putBy};
 use crate::Numbered;
 use editor_terms::edit::Edit;
 use editor_terms::edit::RemoveKind;
+use names::limits::WIDTH;
 use names::mode::Mode;
 use names::mode::ModeRead;
 use store_slots::Record;
 
 // An edit at a path below a prefix.
-fn edited(
+fn numbered_edit(
     ed: Record,
     plens: &mut [u64],
     paths: &mut [u8],
@@ -34,7 +34,7 @@ fn edited(
         (lent ed (now (plens .entry)) (now (paths .entry)) (now (tlens .entry)) (now (trees .entry)) (now (order .entry))) (r .code)
         (lent (r .ed) (now (plens .exit)) (now (paths .exit)) (now (tlens .exit)) (now (trees .exit)) (now (order .exit))) ⌝ }
 {
-    let a = editor::edit::edited(
+    let a = editor::edit::edit(
         ed,
         plens,
         paths,
@@ -57,8 +57,8 @@ fn edited(
     }
 }
 
-// Sets the entry at a path below a prefix: 14 where the mode is none of the five, or the id has not 20 bytes.
-pub fn upsert_at(
+// Sets the entry at a path below a prefix: 255 where the mode is none of the five, or the id has not 20 bytes.
+pub fn upsert(
     ed: Record,
     plens: &mut [u64],
     paths: &mut [u8],
@@ -77,14 +77,14 @@ pub fn upsert_at(
         (lent ed (now (plens .entry)) (now (paths .entry)) (now (tlens .entry)) (now (trees .entry)) (now (order .entry))) (r .code)
         (lent (r .ed) (now (plens .exit)) (now (paths .exit)) (now (tlens .exit)) (now (trees .exit)) (now (order .exit))) ⌝ }
 {
-    if id.len() != 20 {
-        return Numbered { code: 14, ed };
+    if id.len() != WIDTH {
+        return Numbered { code: 255, ed };
     }
     match (Mode { bits: mode }).kind() {
-        ModeRead::Refused => Numbered { code: 14, ed },
+        ModeRead::Refused => Numbered { code: 255, ed },
         ModeRead::Kind(kind) => {
             let edit = Edit::Upsert(kind, editor_terms::id::id_at(id, 0));
-            edited(
+            numbered_edit(
                 ed,
                 plens,
                 paths,
@@ -102,44 +102,8 @@ pub fn upsert_at(
     }
 }
 
-// Sets the entry at a path.
-pub fn upsert(
-    ed: Record,
-    plens: &mut [u64],
-    paths: &mut [u8],
-    tlens: &mut [u64],
-    trees: &mut [u8],
-    order: &[u64],
-    ids: &[u8],
-    ends: &[u32],
-    raws: &[u8],
-    path: &[u8],
-    id: &[u8],
-    mode: u32,
-) -> Numbered
-    ensures { λ r. ⌜ Numbers (putBy (tableOf (now (ids .entry)) (now (ends .entry)) (now (raws .entry))) mode (now (id .entry)) [] (now (path .entry)))
-        (lent ed (now (plens .entry)) (now (paths .entry)) (now (tlens .entry)) (now (trees .entry)) (now (order .entry))) (r .code)
-        (lent (r .ed) (now (plens .exit)) (now (paths .exit)) (now (tlens .exit)) (now (trees .exit)) (now (order .exit))) ⌝ }
-{
-    upsert_at(
-        ed,
-        plens,
-        paths,
-        tlens,
-        trees,
-        order,
-        ids,
-        ends,
-        raws,
-        b"",
-        path,
-        id,
-        mode,
-    )
-}
-
 // Removes the entry at a path below a prefix.
-pub fn remove_at(
+pub fn remove(
     ed: Record,
     plens: &mut [u64],
     paths: &mut [u8],
@@ -157,7 +121,7 @@ pub fn remove_at(
         (lent (r .ed) (now (plens .exit)) (now (paths .exit)) (now (tlens .exit)) (now (trees .exit)) (now (order .exit))) ⌝ }
 {
     let edit = Edit::Remove(RemoveKind::Any);
-    edited(
+    numbered_edit(
         ed,
         plens,
         paths,
@@ -173,40 +137,8 @@ pub fn remove_at(
     )
 }
 
-// Removes the entry at a path.
-pub fn remove(
-    ed: Record,
-    plens: &mut [u64],
-    paths: &mut [u8],
-    tlens: &mut [u64],
-    trees: &mut [u8],
-    order: &[u64],
-    ids: &[u8],
-    ends: &[u32],
-    raws: &[u8],
-    path: &[u8],
-) -> Numbered
-    ensures { λ r. ⌜ Does (model.edited sha1 (tableOf (now (ids .entry)) (now (ends .entry)) (now (raws .entry))) (walk.remove walk.ANY) false [] (now (path .entry)))
-        (lent ed (now (plens .entry)) (now (paths .entry)) (now (tlens .entry)) (now (trees .entry)) (now (order .entry))) (r .code)
-        (lent (r .ed) (now (plens .exit)) (now (paths .exit)) (now (tlens .exit)) (now (trees .exit)) (now (order .exit))) ⌝ }
-{
-    remove_at(
-        ed,
-        plens,
-        paths,
-        tlens,
-        trees,
-        order,
-        ids,
-        ends,
-        raws,
-        b"",
-        path,
-    )
-}
-
 // Removes the entry at a path below a prefix, which must not be a tree.
-pub fn remove_leaf_at(
+pub fn remove_leaf(
     ed: Record,
     plens: &mut [u64],
     paths: &mut [u8],
@@ -224,7 +156,7 @@ pub fn remove_leaf_at(
         (lent (r .ed) (now (plens .exit)) (now (paths .exit)) (now (tlens .exit)) (now (trees .exit)) (now (order .exit))) ⌝ }
 {
     let edit = Edit::Remove(RemoveKind::Leaf);
-    edited(
+    numbered_edit(
         ed,
         plens,
         paths,
@@ -237,38 +169,6 @@ pub fn remove_leaf_at(
         prefix,
         path,
         edit,
-    )
-}
-
-// Removes the entry at a path, which must not be a tree.
-pub fn remove_leaf(
-    ed: Record,
-    plens: &mut [u64],
-    paths: &mut [u8],
-    tlens: &mut [u64],
-    trees: &mut [u8],
-    order: &[u64],
-    ids: &[u8],
-    ends: &[u32],
-    raws: &[u8],
-    path: &[u8],
-) -> Numbered
-    ensures { λ r. ⌜ Does (model.edited sha1 (tableOf (now (ids .entry)) (now (ends .entry)) (now (raws .entry))) (walk.remove walk.LEAF) false [] (now (path .entry)))
-        (lent ed (now (plens .entry)) (now (paths .entry)) (now (tlens .entry)) (now (trees .entry)) (now (order .entry))) (r .code)
-        (lent (r .ed) (now (plens .exit)) (now (paths .exit)) (now (tlens .exit)) (now (trees .exit)) (now (order .exit))) ⌝ }
-{
-    remove_leaf_at(
-        ed,
-        plens,
-        paths,
-        tlens,
-        trees,
-        order,
-        ids,
-        ends,
-        raws,
-        b"",
-        path,
     )
 }
 
@@ -289,7 +189,7 @@ pub fn cursor_at(
         (lent ed (now (plens .entry)) (now (paths .entry)) (now (tlens .entry)) (now (trees .entry)) (now (order .entry))) (r .code)
         (lent (r .ed) (now (plens .exit)) (now (paths .exit)) (now (tlens .exit)) (now (trees .exit)) (now (order .exit))) ⌝ }
 {
-    let o = editor::below::cursor_at(ed, plens, paths, tlens, trees, order, ids, ends, raws, path);
+    let o = editor::cursor::cursor_at(ed, plens, paths, tlens, trees, order, ids, ends, raws, path);
     let code = o.code;
     let opened = o.ed;
     Numbered {

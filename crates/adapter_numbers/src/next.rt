@@ -3,16 +3,18 @@ ghost use Rattle.store_check.specs.Decides.{Decides};
 ghost use Rattle.editor.specs.Lent.{lent};
 ghost use Rattle.adapter_numbers.specs.Asks.{slices, Whole, AnswersAndAsks};
 use crate::Numbered;
+use names::limits::PATH;
+use names::limits::WIDTH;
 use store_slots::Record;
 
 // Whether the id has 20 bytes, and the slices have room for any path, two lengths and a number.
-fn whole(id: &[u8], path: &[u8], lens: &[usize], next: &[u8]) -> bool
+fn arguments_ok(id: &[u8], path: &[u8], lens: &[usize], next: &[u8]) -> bool
     ensures { λ r. ⌜ Decides (Whole (now (id .entry)) (now (path .entry)) (now (lens .entry)) (now (next .entry))) r ⌝ }
 {
-    if id.len() != 20 {
+    if id.len() != WIDTH {
         return false;
     }
-    if path.len() < 1024 {
+    if path.len() < PATH {
         return false;
     }
     if lens.len() < 2 {
@@ -24,7 +26,7 @@ fn whole(id: &[u8], path: &[u8], lens: &[usize], next: &[u8]) -> bool
     true
 }
 
-// Answers the open request with the id of the tree that was requested, and reads the request that is open then: 14 where the id has not 20 bytes, or
+// Answers the open request with the id of the tree that was requested, and reads the request that is open then: 255 where the id has not 20 bytes, or
 // where there is no room.
 pub fn answer_and_request(
     ed: Record,
@@ -45,8 +47,8 @@ pub fn answer_and_request(
         (lent (r .ed) (now (plens .exit)) (now (paths .exit)) (now (tlens .exit)) (now (trees .exit)) (now (order .exit)))
         (slices (now (out .exit)) (now (path .exit)) (now (lens .exit))) (now (next .exit)) ⌝ }
 {
-    if !whole(id, path, lens, next) {
-        return Numbered { code: 14, ed };
+    if !arguments_ok(id, path, lens, next) {
+        return Numbered { code: 255, ed };
     }
     let a = editor_write::next::answer_and_request(
         ed,
@@ -64,7 +66,7 @@ pub fn answer_and_request(
     let said = read.code;
     let len = read.len;
     let at = read.at;
-    next[0] = crate::told::told(said, len, at, path, lens);
+    next[0] = crate::told::tell_request(said, len, at, path, lens);
     Numbered {
         code: editor_terms::code::number(code),
         ed: now,

@@ -29,7 +29,7 @@ fn needed(code: Code) -> usize
 }
 
 // The number of an answer; the place of a tree that was read goes to the front of the path, and its length and the tree's to the lengths.
-pub fn told(code: Code, len: usize, at: Cursor, path: &mut [u8], lens: &mut [usize]) -> u8
+pub fn tell_request(code: Code, len: usize, at: Cursor, path: &mut [u8], lens: &mut [usize]) -> u8
     requires { ⌜ (1024 ≤ length (now path)) × (2 ≤ length (now lens)) ⌝ }
     ensures { λ r. ⌜ Told code len at (now (path .entry)) (now (lens .entry)) r (now (path .exit)) (now (lens .exit)) ⌝ }
 {

@@ -5,6 +5,7 @@ ghost use Rattle.model.specs.Write.{begun, failed};
 ghost use Rattle.editor.specs.Lent.{lent, Does};
 ghost use Rattle.adapter_numbers.specs.Numbers.{Numbers, answerBy};
 use crate::Numbered;
+use names::limits::WIDTH;
 use store_slots::Record;
 
 // Begins a write from the root.
@@ -52,7 +53,7 @@ pub fn begin_at(
     }
 }
 
-// Answers the open request with the id of the tree that was requested: 14 where it has not 20 bytes.
+// Answers the open request with the id of the tree that was requested: 255 where it has not 20 bytes.
 pub fn answer(
     ed: Record,
     plens: &mut [u64],
@@ -66,8 +67,8 @@ pub fn answer(
         (lent ed (now (plens .entry)) (now (paths .entry)) (now (tlens .entry)) (now (trees .entry)) (now (order .entry))) (r .code)
         (lent (r .ed) (now (plens .exit)) (now (paths .exit)) (now (tlens .exit)) (now (trees .exit)) (now (order .exit))) ⌝ }
 {
-    if id.len() != 20 {
-        return Numbered { code: 14, ed };
+    if id.len() != WIDTH {
+        return Numbered { code: 255, ed };
     }
     let a = editor_write::answer::answer(
         ed,

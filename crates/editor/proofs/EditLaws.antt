@@ -29,7 +29,7 @@ use Rattle.model.proofs.LowNumbers.{measured-low}
 use Rattle.model.proofs.MeasureRight.{measure-code}
 use Rattle.store_runs.specs.Digits.{digits}
 use Rattle.store_runs.specs.Runs.{cut}
-use Rattle.store_runs.proofs.Laws.{length-cut}
+use Rattle.store_runs.proofs.RunLaws.{length-cut}
 use Rattle.store_slots.specs.View.{slotsOf, gather, heldAt, viewOf, asideOf, stackedOf, writeOf, editorOf, pathOf, Laid, treeRoom, Closed}
 use Rattle.store_slots.specs.declared.Record.{Record}
 use Rattle.store_slots.proofs.Relaid.{find-slot}
@@ -48,7 +48,7 @@ use Rattle.editor_walk.specs.Steps.{Standing, editorAt, SettledAs}
 use Rattle.editor_walk.specs.declared.apply.Answer.{Answer}
 use Rattle.editor_walk.proofs.SettleLaws.{short-path}
 use Rattle.editor.specs.Edited.{EditedAs}
-use Rattle.editor.specs.Lent.{Lent, lent, Good, viewed, Behind, Does}
+use Rattle.editor.specs.Lent.{Lent, lent, Good, viewed, Behind, Still, Does}
 use Rattle.editor.specs.Looks.{ReadyIs}
 use Rattle.editor.specs.declared.ready.Ready.{Ready}
 use Rattle.editor.specs.declared.ready.Ready.the-variants.{In, Stale, Refused}
@@ -118,7 +118,7 @@ module _ (T : Table) (e : Edit) (opening : Bool) (prefix path : Bytes) (r : Reco
   abbrev Told : Code → Type 0
   Told k = EditedAs r plens paths tlens trees order (edited sha1 T e opening prefix path E) (record { code = k; ed = r }) plens paths tlens trees
 
-  refuses : (k : Code) → 5 ≤ codeNumber k → codeNumber k ≤ 12 → answered (codeNumber k) E ≡ edited sha1 T e opening prefix path E → Told k
+  refuses : (k : Code) → Still (codeNumber k) → codeNumber k ≤ 12 → answered (codeNumber k) E ≡ edited sha1 T e opening prefix path E → Told k
   refuses k h l m = record { made = m; same = λ z. (refl, refl, refl, refl, refl); stand = λ z. absurd (z h); usual = λ z. omega (arith, l, z) }
 
   wide : {b : Bool} → goodTable 20 T ≡ b → goodTable (sha1 .width) T ≡ b
@@ -239,7 +239,7 @@ module _ (T : Table) (edit : Asked) (opening : Bool) (prefix path : Bytes) (r : 
     abbrev left : Lent
     left = lent (a .ed) P Q U Y order
 
-    same-all : 5 ≤ codeNumber (a .code) → left ≡ S
+    same-all : Still (codeNumber (a .code)) → left ≡ S
     same-all h =
         let z = x .same h in
         ap (λ (y : Record). lent y P Q U Y order) (z .0)
@@ -300,7 +300,7 @@ module _ (T : Table) (edit : Asked) (opening : Bool) (prefix path : Bytes) (r : 
     done = go (leb 5 (codeNumber (a .code))) refl where
       go : (b : Bool) → leb 5 (codeNumber (a .code)) ≡ b → Does f S (codeNumber (a .code)) left
       go true e =
-          let h : 5 ≤ codeNumber (a .code) = leb-true 5 (codeNumber (a .code)) e in
+          let h : Still (codeNumber (a .code)) = leb-true 5 (codeNumber (a .code)) e in
           let z = x .same h in
           finish (ap length (z .1) ∙ length-take-le 64 plens (g .plens-room)) (ap length (z .2) ∙ length-take-le 8192 paths (g .paths-room))
           (ap length (z .3) ∙ length-take-le 64 tlens (g .tlens-room)) (ap length (z .4) ∙ length-take-le 38912 trees (trees-long r plens paths tlens trees order g))
@@ -350,8 +350,3 @@ module _ (T : Table) (path : Bytes) (s q : Lent) (n : ℕ) (d : Does (edited sha
         done = λ z. let x = d .done z in (x .0, x .1 ∙ opened-is T path (viewed s), x .2, x .3);
         kept = d .kept;
       }
-
--- ---- an edit below a cursor
-
-pub below-does : (T : Table) (e : Edit) (x y path : Bytes) → x ≡ y → (s q : Lent) (n : ℕ) → Does (edited sha1 T e false x path) s n q → Does (edited sha1 T e false y path) s n q
-below-does T e x y path z s q n d = subst (λ (p : Bytes). Does (edited sha1 T e false p path) s n q) z d

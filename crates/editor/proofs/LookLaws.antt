@@ -19,7 +19,7 @@ use Rattle.store_runs.specs.Runs.{cut}
 use Rattle.store_runs.specs.declared.runs.Found.{Found}
 use Rattle.store_runs.specs.declared.runs.Found.the-variants.{At, Nothing}
 use Rattle.store_runs.proofs.DigitLaws.{length-digits}
-use Rattle.store_runs.proofs.Laws.{length-cut}
+use Rattle.store_runs.proofs.RunLaws.{length-cut}
 use Rattle.store_slots.specs.View.{slotsOf, gather, heldAt, viewOf, asideOf, stackedOf, writeOf, editorOf, SlotIs, Used, pathOf, Laid, treeRoom}
 use Rattle.store_slots.specs.declared.Record.{Record}
 use Rattle.store_check.specs.Decides.{Decides}

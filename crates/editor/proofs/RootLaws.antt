@@ -32,7 +32,7 @@ use Rattle.editor_walk.proofs.LandLaws.{size-none}
 use Rattle.store_check.specs.Decides.{Decides}
 use Rattle.store_check.proofs.Deciding as deciding
 use Rattle.store_check.proofs.StoredLaws.{sha1-width, sha1-room}
-use Rattle.editor.specs.Lent.{Lent, lent, Long, Good, viewed, Behind, Does}
+use Rattle.editor.specs.Lent.{Lent, lent, Long, Good, viewed, Behind, Still, Does}
 use Rattle.editor.specs.Roots.{Roots, Makes}
 use Rattle.editor.proofs.EditLaws.{no-writing}
 
@@ -86,12 +86,12 @@ unfolding rooted
 rooted-code E none = omega arith
 rooted-code E (some t) = refuse-code (not (fits (rootOnly t .cached))) E (rootOnly t)
 
-refuse-five : (b : Bool) (E F : Model) → (refuseIf b 5 E (record { code = 0; editor = F }) .code ≡ 0 → ⊥) → 5 ≤ refuseIf b 5 E (record { code = 0; editor = F }) .code
+refuse-five : (b : Bool) (E F : Model) → (refuseIf b 5 E (record { code = 0; editor = F }) .code ≡ 0 → ⊥) → Still (refuseIf b 5 E (record { code = 0; editor = F }) .code)
 unfolding refuseIf
 refuse-five true E F n = omega arith
 refuse-five false E F n = absurd (n refl)
 
-rooted-five : (E : Model) (o : Option Tree) → (rooted E o .code ≡ 0 → ⊥) → 5 ≤ rooted E o .code
+rooted-five : (E : Model) (o : Option Tree) → (rooted E o .code ≡ 0 → ⊥) → Still (rooted E o .code)
 unfolding rooted
 rooted-five E none n = omega arith
 rooted-five E (some t) n = refuse-five (not (fits (rootOnly t .cached))) E (rootOnly t) n
@@ -231,7 +231,7 @@ module _ (raw : Bytes) (s : Lent) where
         go true e = r .good (eqb-true code 0 e)
         go false e =
             let c : code ≡ rooted (viewed s) (readTree 20 raw) .code = ap (λ (a : Answer). a .code) (r .is) in
-            let f : 5 ≤ rooted (viewed s) (readTree 20 raw) .code = rooted-five (viewed s) (readTree 20 raw) (λ z. eqb-false code 0 e (c ∙ z)) in
+            let f : Still (rooted (viewed s) (readTree 20 raw) .code) = rooted-five (viewed s) (readTree 20 raw) (λ z. eqb-false code 0 e (c ∙ z)) in
             subst Good (sym (r .kept (omega (arith, c, f)))) g
 
     pub sets-root : Good s → isSome (viewed s .writing) ≡ false → Does (setRoot sha1 raw) s code q

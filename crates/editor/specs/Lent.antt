@@ -46,8 +46,12 @@ pub record Behind (s q : Lent) : Type 0 where
   pub trees : drop (treeRoom 20) (q .trees) ≡ drop (treeRoom 20) (s .trees)
   pub order : drop 64 (q .order) ≡ drop 64 (s .order)
 
--- A call does what f says of the editor that is held: 13 is for a store that holds none, and the numbers from 5 on leave each lent byte.
+-- nothing has changed with this number
+abbrev pub Still : ℕ → Type 0
+Still c = 5 ≤ c
+
+-- A call does what f says of the editor that is held: 13 is for a store that holds none, and where nothing changes each lent byte is as it was.
 pub record Does (f : Model → Answer) (s : Lent) (code : ℕ) (q : Lent) : Type 0 where
   pub refused : code ≡ 13 → (Good s → ⊥) × (q ≡ s)
   pub done : (code ≡ 13 → ⊥) → Good s × (record { code = code; editor = viewed q } ≡ f (viewed s)) × Good q × Behind s q
-  pub kept : 5 ≤ code → q ≡ s
+  pub kept : Still code → q ≡ s

@@ -1,14 +1,11 @@
 // Edits of a lent store, below a prefix.
 ghost use mathlib.Core.Path.{_≡_};
-ghost use mathlib.Core.Bool.{true, false};
-ghost use mathlib.Core.List.{List, []};
+ghost use mathlib.Core.Bool.{true};
+ghost use mathlib.Core.List.{List};
 ghost use Prim.Native.Nat.{ℕ};
 ghost use Rattle.model.specs.Formats.{sha1};
 ghost use Rattle.model.specs.Valid.{valid};
 ghost use Rattle.model.specs.Calls as model;
-ghost use Rattle.model.specs.Walk as walk;
-ghost use Rattle.names.specs.Answers.{asMode};
-ghost use Rattle.editor_terms.specs.Ids.{idBytes};
 ghost use Rattle.store_slots.specs.View.{Laid, viewOf, editorOf};
 ghost use Rattle.editor_walk.specs.Steps.{editorAt};
 ghost use Rattle.editor_terms.specs.Answers.{codeNumber};
@@ -19,10 +16,11 @@ ghost use Rattle.editor.specs.Edited.{EditedAs};
 use crate::ready::Ready;
 use editor_terms::code::Code;
 use editor_terms::edit::Edit;
-use editor_terms::edit::RemoveKind;
-use editor_terms::id::Id;
 use editor_walk::apply::Answer;
-use names::mode::EntryKind;
+use names::limits::FULL;
+use names::limits::PATH_BYTES;
+use names::limits::SLOTS;
+use names::limits::TREE_BYTES;
 use store_slots::Record;
 
 // An edit at a path below a prefix, over slices as long as a store, which hold an editor.
@@ -68,7 +66,7 @@ fn edit_held(
             ed,
         },
         Ready::In(slot) => {
-            let mut buf = [0u8; 1280];
+            let mut buf = [0u8; FULL];
             let n = names::full::put_full(&mut buf, prefix, path);
             editor_walk::apply::settle(
                 ed,
@@ -90,7 +88,7 @@ fn edit_held(
 }
 
 // An edit, or with `opening` the opening of a cursor, at a path below a prefix.
-pub fn edited(
+pub fn edit(
     ed: Record,
     plens: &mut [u64],
     paths: &mut [u8],
@@ -117,10 +115,10 @@ pub fn edited(
     }
     edit_held(
         ed,
-        &mut plens[..64],
-        &mut paths[..8192],
-        &mut tlens[..64],
-        &mut trees[..38912],
+        &mut plens[..SLOTS],
+        &mut paths[..PATH_BYTES],
+        &mut tlens[..SLOTS],
+        &mut trees[..TREE_BYTES],
         ids,
         ends,
         raws,
@@ -128,112 +126,5 @@ pub fn edited(
         path,
         edit,
         opening,
-    )
-}
-
-// Sets the entry at a path.
-pub fn upsert(
-    ed: Record,
-    plens: &mut [u64],
-    paths: &mut [u8],
-    tlens: &mut [u64],
-    trees: &mut [u8],
-    order: &[u64],
-    ids: &[u8],
-    ends: &[u32],
-    raws: &[u8],
-    path: &[u8],
-    kind: EntryKind,
-    id: Id,
-) -> Answer
-    ensures { λ a. ⌜ Does (model.edited sha1 (tableOf (now (ids .entry)) (now (ends .entry)) (now (raws .entry))) (walk.upsert (asMode kind) (idBytes id)) false [] (now (path .entry)))
-        (lent ed (now (plens .entry)) (now (paths .entry)) (now (tlens .entry)) (now (trees .entry)) (now (order .entry))) (codeNumber (a .code))
-        (lent (a .ed) (now (plens .exit)) (now (paths .exit)) (now (tlens .exit)) (now (trees .exit)) (now (order .exit))) ⌝ }
-{
-    let edit = Edit::Upsert(kind, id);
-    edited(
-        ed,
-        plens,
-        paths,
-        tlens,
-        trees,
-        order,
-        ids,
-        ends,
-        raws,
-        b"",
-        path,
-        edit,
-        false,
-    )
-}
-
-// Removes the entry at a path.
-pub fn remove(
-    ed: Record,
-    plens: &mut [u64],
-    paths: &mut [u8],
-    tlens: &mut [u64],
-    trees: &mut [u8],
-    order: &[u64],
-    ids: &[u8],
-    ends: &[u32],
-    raws: &[u8],
-    path: &[u8],
-) -> Answer
-    ensures { λ a. ⌜ Does (model.edited sha1 (tableOf (now (ids .entry)) (now (ends .entry)) (now (raws .entry))) (walk.remove walk.ANY) false [] (now (path .entry)))
-        (lent ed (now (plens .entry)) (now (paths .entry)) (now (tlens .entry)) (now (trees .entry)) (now (order .entry))) (codeNumber (a .code))
-        (lent (a .ed) (now (plens .exit)) (now (paths .exit)) (now (tlens .exit)) (now (trees .exit)) (now (order .exit))) ⌝ }
-{
-    let edit = Edit::Remove(RemoveKind::Any);
-    edited(
-        ed,
-        plens,
-        paths,
-        tlens,
-        trees,
-        order,
-        ids,
-        ends,
-        raws,
-        b"",
-        path,
-        edit,
-        false,
-    )
-}
-
-// Removes the entry at a path, which must not be a tree.
-pub fn remove_leaf(
-    ed: Record,
-    plens: &mut [u64],
-    paths: &mut [u8],
-    tlens: &mut [u64],
-    trees: &mut [u8],
-    order: &[u64],
-    ids: &[u8],
-    ends: &[u32],
-    raws: &[u8],
-    path: &[u8],
-) -> Answer
-    ensures { λ a. ⌜ Does (model.edited sha1 (tableOf (now (ids .entry)) (now (ends .entry)) (now (raws .entry))) (walk.remove walk.LEAF) false [] (now (path .entry)))
-        (lent ed (now (plens .entry)) (now (paths .entry)) (now (tlens .entry)) (now (trees .entry)) (now (order .entry))) (codeNumber (a .code))
-        (lent (a .ed) (now (plens .exit)) (now (paths .exit)) (now (tlens .exit)) (now (trees .exit)) (now (order .exit))) ⌝ }
-{
-    let edit = Edit::Remove(RemoveKind::Leaf);
-    edited(
-        ed,
-        plens,
-        paths,
-        tlens,
-        trees,
-        order,
-        ids,
-        ends,
-        raws,
-        b"",
-        path,
-        edit,
-        false,
     )
 }

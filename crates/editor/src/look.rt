@@ -1,6 +1,6 @@
 // Lookups in a lent store.
 ghost use mathlib.Core.Path.{_≡_};
-ghost use mathlib.Core.List.{List, []};
+ghost use mathlib.Core.List.{List};
 ghost use Prim.Native.Nat.{ℕ};
 ghost use Rattle.model.specs.Paths.{base};
 ghost use Rattle.model.specs.Lookup as model;
@@ -11,6 +11,10 @@ ghost use Rattle.editor.specs.Looks.{Looks};
 use crate::ready::Ready;
 use editor_terms::code::Code;
 use editor_walk::look::Looked;
+use names::limits::FULL;
+use names::limits::PATH_BYTES;
+use names::limits::SLOTS;
+use names::limits::TREE_BYTES;
 use store_slots::Record;
 
 // The entry at a path below a prefix, over slices as long as a store, which hold an editor.
@@ -34,7 +38,7 @@ fn look_held(
         Ready::Stale => Looked::Refused(Code::CursorStale),
         Ready::Refused => Looked::Refused(Code::PathRefused),
         Ready::In(slot) => {
-            let mut buf = [0u8; 1280];
+            let mut buf = [0u8; FULL];
             let n = names::full::put_full(&mut buf, prefix, path);
             editor_walk::look::look(ed, plens, paths, tlens, trees, &buf[..n], path, slot)
         }
@@ -42,7 +46,7 @@ fn look_held(
 }
 
 // The entry at a path below a prefix.
-pub fn looked(
+pub fn get(
     ed: Record,
     plens: &[u64],
     paths: &[u8],
@@ -59,26 +63,11 @@ pub fn looked(
     }
     look_held(
         ed,
-        &plens[..64],
-        &paths[..8192],
-        &tlens[..64],
-        &trees[..38912],
+        &plens[..SLOTS],
+        &paths[..PATH_BYTES],
+        &tlens[..SLOTS],
+        &trees[..TREE_BYTES],
         prefix,
         path,
     )
-}
-
-// The entry at a path.
-pub fn get(
-    ed: Record,
-    plens: &[u64],
-    paths: &[u8],
-    tlens: &[u64],
-    trees: &[u8],
-    order: &[u64],
-    path: &[u8],
-) -> Looked
-    ensures { λ r. ⌜ Looks [] (now (path .entry)) (lent ed (now (plens .entry)) (now (paths .entry)) (now (tlens .entry)) (now (trees .entry)) (now (order .entry))) (lookedAs (base (now (path .entry))) r) ⌝ }
-{
-    looked(ed, plens, paths, tlens, trees, order, b"", path)
 }

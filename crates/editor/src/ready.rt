@@ -7,7 +7,7 @@ ghost use Rattle.model.specs.Bytes.{Bytes};
 ghost use Rattle.store_runs.specs.Digits.{digits};
 ghost use Rattle.store_runs.specs.Runs.{cut, Sound};
 ghost use Rattle.editor.specs.Looks.{ReadyIs};
-use store_runs::runs::Found;
+use store_slots::Found;
 use store_slots::Record;
 
 // The slot of the prefix; or that no tree is cached there, number 8, or that the path is refused, number 6.

@@ -15,14 +15,15 @@ ghost use Rattle.store_check.specs.Decides.{Decides};
 ghost use Rattle.editor.specs.Lent.{lent, Long, Does};
 ghost use Rattle.editor.specs.Roots.{Roots, Makes};
 use editor_terms::code::Code;
+use editor_walk::apply::Answer;
+use names::limits::ENTRIES;
+use names::limits::NAME_BYTES;
+use names::limits::PATH_BYTES;
+use names::limits::SLOTS;
+use names::limits::TREE_BYTES;
+use names::limits::WIDTH;
 use names::tree::Checked;
 use store_slots::Record;
-
-// What a call that may change the store answers: its number, and the record then.
-pub struct Answer {
-    pub code: Code,
-    pub ed: Record,
-}
 
 // Caches a well-formed raw tree with so many entries and name bytes as the root, and nothing else, in slices as long as a store.
 fn root_only(
@@ -40,7 +41,7 @@ fn root_only(
         → Holds sha1 q (now (plens .exit)) (now (paths .exit)) (now (tlens .exit)) (now (trees .exit)) order
         × (editorOf 20 q (now (plens .exit)) (now (paths .exit)) (now (tlens .exit)) (now (trees .exit)) order ≡ rootOnly t)) ⌝ }
 {
-    let none = store_slots::drop_all(plens, paths, tlens, trees, 20);
+    let none = store_slots::drop_all(plens, paths, tlens, trees, WIDTH);
     let root = names::part::front(raw, 0);
     let one = store_trees::load::load(
         none,
@@ -48,7 +49,7 @@ fn root_only(
         paths,
         tlens,
         trees,
-        20,
+        WIDTH,
         root,
         raw,
         entries,
@@ -71,7 +72,7 @@ fn rooted(
         → Roots (now (raw .entry)) (lent ed (now (plens .entry)) (now (paths .entry)) (now (tlens .entry)) (now (trees .entry)) order) (codeNumber (r .code))
         (lent (r .ed) (now (plens .exit)) (now (paths .exit)) (now (tlens .exit)) (now (trees .exit)) order)) ⌝ }
 {
-    match names::tree::well_formed(raw, 20) {
+    match names::tree::well_formed(raw, WIDTH) {
         Checked::Broken => Answer {
             code: Code::BadRoot,
             ed,
@@ -80,23 +81,23 @@ fn rooted(
             entries,
             name_bytes,
         } => {
-            if 1024 < entries {
+            if ENTRIES < entries {
                 return Answer {
                     code: Code::NoRoom,
                     ed,
                 };
             }
-            if 16384 < name_bytes {
+            if NAME_BYTES < name_bytes {
                 return Answer {
                     code: Code::NoRoom,
                     ed,
                 };
             }
             let q = root_only(
-                &mut plens[..64],
-                &mut paths[..8192],
-                &mut tlens[..64],
-                &mut trees[..38912],
+                &mut plens[..SLOTS],
+                &mut paths[..PATH_BYTES],
+                &mut tlens[..SLOTS],
+                &mut trees[..TREE_BYTES],
                 raw,
                 entries,
                 name_bytes,
@@ -113,19 +114,19 @@ fn rooted(
 fn long_enough(plens: &[u64], paths: &[u8], tlens: &[u64], trees: &[u8], order: &[u64]) -> bool
     ensures { λ b. ⌜ ((ed : Record) → Decides (Long (lent ed (now (plens .entry)) (now (paths .entry)) (now (tlens .entry)) (now (trees .entry)) (now (order .entry)))) b) ⌝ }
 {
-    if plens.len() < 64 {
+    if plens.len() < SLOTS {
         return false;
     }
-    if paths.len() < 8192 {
+    if paths.len() < PATH_BYTES {
         return false;
     }
-    if tlens.len() < 64 {
+    if tlens.len() < SLOTS {
         return false;
     }
-    if trees.len() < 38912 {
+    if trees.len() < TREE_BYTES {
         return false;
     }
-    if order.len() < 64 {
+    if order.len() < SLOTS {
         return false;
     }
     true

@@ -1,7 +1,7 @@
 -- Laws of counts: the record's numbers are the model's, and the limits are tests of single numbers. Assumes nothing.
 use Prim.Native.Nat.{ℕ, _+_, _-_, _≤_, _<_}
 use mathlib.Core.Path.{_≡_, refl, sym, ap, ap₂, _∙_}
-use mathlib.Core.List.{List, [], _∷_}
+use mathlib.Core.List.{List}
 use mathlib.Core.Bool.{Bool, true, false}
 use native.Mathlib.Omega.{arith}
 use lib.Dec.{leb}
@@ -15,11 +15,9 @@ use Rattle.model.proofs.MeasureRight.{within-fits}
 use Rattle.model.proofs.LimitLaws.{Roomy, roomy}
 use Rattle.store_runs.specs.Digits.{digits}
 use Rattle.store_runs.specs.Runs.{total}
-use Rattle.store_runs.proofs.DigitLaws.{length-digits}
 use Rattle.store_slots.specs.declared.Record.{Record}
 use Rattle.store_slots.specs.View.{viewOf, Laid}
 use Rattle.store_slots.proofs.Counts.{paths-is, slots-is}
-use Rattle.store_slots.proofs.Where.{Bits, digits-bits}
 use Rattle.editor_walk.specs.Counted.{recordCounts}
 
 abbrev pub counts : ℕ → ℕ → ℕ → ℕ → Counts
@@ -27,15 +25,6 @@ counts a b c d = record { trees = a; entries = b; names = c; paths = d }
 
 same-counts : {a b c d a′ b′ c′ d′ : ℕ} → a ≡ a′ → b ≡ b′ → c ≡ c′ → d ≡ d′ → counts a b c d ≡ counts a′ b′ c′ d′
 same-counts {a} {b} {c} {d} {a′} {b′} {c′} {d′} p q r s = ap₂ (λ (x y : ℕ). counts x y c d) p q ∙ ap₂ (λ (x y : ℕ). counts a′ b′ x y) r s
-
--- not more than 64 slots are free
-bits-sum : (ds : List ℕ) → Bits ds → total ds ≤ length ds
-unfolding total
-bits-sum [] b = omega arith
-bits-sum (d ∷ ds) (b, bs) = let h = bits-sum ds bs in omega (arith, h, b)
-
-pub free-few : (n : ℕ) → total (digits 64 n) ≤ 64
-free-few n = omega (arith, bits-sum (digits 64 n) (digits-bits 64 n), length-digits 64 n)
 
 -- the record of a store that is laid out has the model's counts
 pub counts-view : (r : Record) (plens paths tlens trees : List ℕ) → Laid 20 r plens paths tlens trees → recordCounts r ≡ countsOf (viewOf 20 r plens paths tlens trees)

@@ -23,13 +23,13 @@ use Rattle.names_compact.specs.Compact.{unpack}
 use Rattle.names.specs.declared.mode.EntryKind.{EntryKind}
 use Rattle.store_runs.specs.Digits.{digits}
 use Rattle.store_runs.specs.Runs.{cut, runOf}
-use Rattle.store_runs.proofs.Laws.{length-cut}
+use Rattle.store_runs.proofs.RunLaws.{length-cut}
 use Rattle.store_runs.specs.declared.runs.Found.the-variants as F
 use Rattle.store_slots.specs.declared.Record.{Record}
 use Rattle.store_slots.specs.View.{slotsOf, gather, viewOf, Laid, Used, pathOf, treeOf, SlotIs}
 use Rattle.store_slots.proofs.Cached.{cached-view}
 use Rattle.store_slots.proofs.Relaid.{find-slot}
-use Rattle.store_slots.proofs.Calls.{tree-run}
+use Rattle.store_slots.proofs.Changes.{tree-run}
 use Rattle.editor_terms.specs.Ids.{idBytes}
 use Rattle.editor_terms.specs.Edits.{partsOf, seenAs}
 use Rattle.editor_terms.specs.declared.edit.Seen.the-variants as S

@@ -24,11 +24,11 @@ use Rattle.names.specs.Places.{firstPiece}
 use Rattle.names_compact.specs.Compact.{unpack}
 use Rattle.store_runs.proofs.FindLaws.{cut-at}
 use Rattle.store_runs.specs.Runs.{cut, runOf}
-use Rattle.store_runs.proofs.Laws.{length-cut}
+use Rattle.store_runs.proofs.RunLaws.{length-cut}
 use Rattle.store_slots.specs.declared.Record.{Record}
 use Rattle.store_slots.specs.View.{slotsOf, gather, viewOf, Laid, Used, pathOf, treeOf}
 use Rattle.store_slots.proofs.Relaid.{find-slot}
-use Rattle.store_slots.proofs.Calls.{searched-run}
+use Rattle.store_slots.proofs.Changes.{searched-run}
 use Rattle.model.proofs.SoundTrees.{sound-well}
 use Rattle.editor_terms.specs.Answers.{codeNumber}
 use Rattle.editor_terms.specs.Edits.{asEdit, partsOf, seenAs, turnAs, goesOn, wantedBy, endsWith, countsAfter, sightAs, TurnIs}
@@ -48,7 +48,6 @@ use Rattle.editor_walk.specs.declared.land.Landing.{Landing}
 use Rattle.editor_walk.specs.declared.land.Landing.the-variants.{There, Fresh, Load, Halt}
 use Rattle.editor_walk.specs.declared.measure.Level.{Level}
 use Rattle.editor_walk.specs.declared.measure.Level.the-variants.{Slot, Raw, Empty}
-use Rattle.editor_walk.specs.declared.measure.Measured.{Measured as Answer}
 use Rattle.editor_walk.specs.declared.measure.MeasureStep.{MeasureStep}
 use Rattle.editor_walk.proofs.ComponentLaws.{components-some, restOf, rest-nil, not-last, pieces-are}
 use Rattle.editor_walk.proofs.CountLaws.{counts-view, counts-room, many-entries, many-names}

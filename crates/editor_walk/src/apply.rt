@@ -204,9 +204,8 @@ fn step(
             ed,
         };
     }
-    let nt = ed.trees;
     let seen = seen_for(
-        store_runs::runs::run(tlens, trees, nt, slot),
+        store_slots::tree_in(ed, tlens, trees, slot),
         name,
         edit,
         last,

@@ -10,6 +10,10 @@ ghost use Rattle.editor_terms.specs.Edits.{putCounts, countsAfter};
 ghost use Rattle.editor_walk.specs.Counted.{countsAs, recordCounts};
 use editor_terms::edit::Seen;
 use editor_terms::edit::Turn;
+use names::limits::ENTRIES;
+use names::limits::NAME_BYTES;
+use names::limits::PATH_BYTES;
+use names::limits::SLOTS;
 use store_slots::Record;
 
 // What is used: trees, entries, bytes of names and of paths.
@@ -24,12 +28,11 @@ pub struct Counts {
 pub fn counts_of(ed: Record) -> Counts
     ensures { λ r. ⌜ countsAs r ≡ recordCounts ed ⌝ }
 {
-    let map = ed.free;
     let entries = ed.entries;
     let names = ed.names;
     let paths = ed.paths;
     Counts {
-        trees: 64 - store_runs::free::left(map),
+        trees: store_slots::used(ed),
         entries,
         names,
         paths,
@@ -40,16 +43,16 @@ pub fn counts_of(ed: Record) -> Counts
 pub fn within(u: Counts) -> bool
     ensures { λ r. ⌜ r ≡ withinLimits (countsAs u) ⌝ }
 {
-    if 64 < u.trees {
+    if SLOTS < u.trees {
         return false;
     }
-    if 1024 < u.entries {
+    if ENTRIES < u.entries {
         return false;
     }
-    if 16384 < u.names {
+    if NAME_BYTES < u.names {
         return false;
     }
-    u.paths <= 8192
+    u.paths <= PATH_BYTES
 }
 
 // The difference of two numbers, or 0 where there is none.

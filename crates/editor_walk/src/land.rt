@@ -15,7 +15,7 @@ use editor_terms::edit::Wanted;
 use editor_terms::id::Id;
 use editor_terms::table::Object;
 use names::tree::Checked;
-use store_runs::runs::Found;
+use store_slots::Found;
 use store_slots::Record;
 
 // A raw tree of the table: where it is, how many entries and name bytes it has.

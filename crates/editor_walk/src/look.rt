@@ -15,7 +15,7 @@ use editor_terms::code::Code;
 use editor_terms::edit::Seen;
 use editor_terms::id::Id;
 use names::mode::EntryKind;
-use store_runs::runs::Found;
+use store_slots::Found;
 use store_slots::Record;
 
 // What a lookup answers: an entry's kind and id, or that there is none, or a refusal.
@@ -79,14 +79,13 @@ pub fn look(
     if path.len() == 0 {
         return Looked::Missing;
     }
-    let nt = ed.trees;
     let mut p = path;
     let mut at = slot;
     loop {
         let k = names::path::component_len(p);
         let last = k == p.len();
         let end = full.len() - p.len() + k;
-        let tree = store_runs::runs::run(tlens, trees, nt, at);
+        let tree = store_slots::tree_in(ed, tlens, trees, at);
         let below = names::part::front(full, end);
         let name = names::part::front(p, k);
         match look_in(ed, plens, paths, tree, below, name, last) {

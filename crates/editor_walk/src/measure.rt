@@ -24,6 +24,8 @@ use editor_terms::code::Code;
 use editor_terms::edit::Edit;
 use editor_terms::edit::Seen;
 use editor_terms::edit::Turn;
+use names::limits::ENTRIES;
+use names::limits::NAME_BYTES;
 use store_slots::Record;
 
 // The tree that the walk would be at: cached in a slot, a raw tree of the table, or an empty one.
@@ -49,13 +51,13 @@ pub struct MeasureStep {
 }
 
 // The entry of a name in the tree at hand.
-fn seen_at(used: usize, tlens: &[u64], trees: &[u8], raws: &[u8], level: Level, name: &[u8]) -> Seen
-    requires { ⌜ Stored used (now tlens) (now trees) × ((t : Tree) × Stands (now tlens) (now trees) (now raws) level t) × (has 47 (now name) ≡ false) ⌝ }
+fn seen_at(ed: Record, tlens: &[u64], trees: &[u8], raws: &[u8], level: Level, name: &[u8]) -> Seen
+    requires { ⌜ Stored (ed .trees) (now tlens) (now trees) × ((t : Tree) × Stands (now tlens) (now trees) (now raws) level t) × (has 47 (now name) ≡ false) ⌝ }
     ensures { λ r. ⌜ SeenAt (now (tlens .entry)) (now (trees .entry)) (now (raws .entry)) level (now (name .entry)) r ⌝ }
 {
     match level {
         Level::Slot(slot) => {
-            crate::seen::seen_in(store_runs::runs::run(tlens, trees, used, slot), name, false)
+            crate::seen::seen_in(store_slots::tree_in(ed, tlens, trees, slot), name, false)
         }
         Level::Raw(from, to) => {
             crate::seen::seen_in_raw(names::part::between(raws, from, to - from), name)
@@ -82,10 +84,10 @@ fn cached(level: Level, entries: usize, names: usize, n: usize, u: Counts) -> Me
     requires { ⌜ (withinLimits (countsAs u) ≡ true) × (n ≤ 1280) ⌝ }
     ensures { λ g. ⌜ CachesAs level entries names n (countsAs u) g ⌝ }
 {
-    if 1024 < entries {
+    if ENTRIES < entries {
         return ended(Code::NoRoom, false, u);
     }
-    if 16384 < names {
+    if NAME_BYTES < names {
         return ended(Code::NoRoom, false, u);
     }
     let w = crate::counts::with_tree(entries, names, n, u);
@@ -177,8 +179,7 @@ fn step(
     if n == 0 {
         return ended(Code::EmptyComponent, true, u);
     }
-    let nt = ed.trees;
-    let seen = seen_at(nt, tlens, trees, raws, level, name);
+    let seen = seen_at(ed, tlens, trees, raws, level, name);
     let turn = editor_terms::edit::turn_of(edit, last, seen);
     let v = crate::counts::turned(turn, seen, n, u);
     if !crate::counts::within(v) {

@@ -24,7 +24,7 @@ use Rattle.store_runs.specs.Runs.{cut}
 use Rattle.store_runs.specs.declared.runs.Found.{Found}
 use Rattle.store_runs.specs.declared.runs.Found.the-variants.{At, Nothing}
 use Rattle.store_runs.proofs.DigitLaws.{length-digits}
-use Rattle.store_runs.proofs.Laws.{length-cut}
+use Rattle.store_runs.proofs.RunLaws.{length-cut}
 use Rattle.store_slots.specs.View.{slotsOf, gather, heldAt, pathOf, cachedOf, asideOf, stackedOf, startOf, marked, SlotIs, Laid, Closed, Ordered}
 use Rattle.store_slots.specs.View.{writeOf as writingAt}
 use Rattle.store_slots.specs.declared.Record.{Record}

@@ -2,7 +2,7 @@
 pub mod AnswerLaws
 pub mod BackLaws
 pub mod BeginLaws
-pub mod Decided
 pub mod FailLaws
 pub mod RequestLaws
+pub mod SameAnswers
 pub mod Theorems

@@ -30,7 +30,7 @@ use Rattle.editor.specs.Looks.{cursorAt}
 use Rattle.editor.specs.declared.cursor.Cursor.{Cursor}
 use Rattle.editor_write.specs.Requests.{shownAs, shownNumber, placeIn, Requests}
 use Rattle.editor_write.specs.Steps.{fronts}
-use Rattle.editor_write.proofs.Decided.{frontOf, zero-code}
+use Rattle.editor_write.proofs.SameAnswers.{frontOf, zero-code}
 use Rattle.editor_write.proofs.FailLaws.{valid-20, front-holds}
 use Rattle.editor_write.proofs.RequestLaws.{asked-of}
 

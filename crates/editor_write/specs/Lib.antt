@@ -1,3 +1,3 @@
--- Definitions that the contracts of `writing` cite.
+-- Definitions that the contracts of `editor_write` cite.
 pub mod Requests
 pub mod Steps

@@ -1,5 +1,5 @@
 -- What reading the open request gives. Assumes nothing.
-use Prim.Native.Nat.{ℕ, _≤_}
+use Prim.Native.Nat.{ℕ}
 use mathlib.Core.Path.{_≡_}
 use mathlib.Core.List.{[]}
 use mathlib.Core.Option.{Option, none, some}
@@ -10,7 +10,7 @@ use Rattle.model.specs.Write.{Shown, shown, short, unopened, requested, show}
 use Rattle.editor_terms.specs.Answers.{codeNumber}
 use Rattle.editor_terms.specs.declared.code.Code.{Code}
 use Rattle.editor_terms.specs.declared.code.Code.the-variants.{Done, EmptyComponent, TreeNotFound, TreeDamaged, NotALeaf, NoRoom, PathRefused, BadTable, CursorStale, WriteOpen, NoWriteOpen, OutputShort, BadRoot, StoreDamaged}
-use Rattle.editor.specs.Lent.{Lent, Good, viewed}
+use Rattle.editor.specs.Lent.{Lent, Good, viewed, Still}
 use Rattle.editor.specs.Looks.{cursorAt}
 use Rattle.editor.specs.declared.cursor.Cursor.{Cursor}
 
@@ -53,7 +53,7 @@ placeIn unopened o = []
 pub record Shows (f : ℕ → Shown) (code : Code) (n : ℕ) (before after : Bytes) : Type 0 where
   pub is : shownAs code n after ≡ f (length before)
   pub rest : drop n after ≡ drop n before
-  pub kept : 5 ≤ codeNumber code → after ≡ before
+  pub kept : Still (codeNumber code) → after ≡ before
   pub number : codeNumber code ≡ shownNumber (f (length before))
   pub long : n ≡ shownLength (f (length before))
 

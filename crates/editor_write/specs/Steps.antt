@@ -8,7 +8,7 @@ use Rattle.model.specs.Editor.{startPath}
 use Rattle.model.specs.Editor.{Editor as Model}
 use Rattle.model.specs.Formats.{sha1}
 use Rattle.store_slots.specs.View.{startOf, editorOf, Holds}
-use Rattle.editor.specs.Lent.{Lent, lent}
+use Rattle.editor.specs.Lent.{Lent, lent, Still}
 
 -- the fronts of lent slices, which are as long as a store where it holds an editor
 abbrev pub fronts : Lent → Lent
@@ -27,11 +27,11 @@ pub record Made (f : Model → Answer) (s q : Lent) : Type 0 where
   pub holds : HoldsExactly q
   pub is : record { code = 0; editor = exactly q } ≡ f (exactly s)
 
--- f is answered of the editor that is held: the numbers from 5 on leave each byte, and 13 is none of them
+-- f is answered of the editor that is held: where nothing changes each byte is as it was, and 13 is none of them
 pub record Answers (f : Model → Answer) (s : Lent) (code : ℕ) (q : Lent) : Type 0 where
   pub holds : HoldsExactly q
   pub is : record { code = code; editor = exactly q } ≡ f (exactly s)
-  pub kept : 5 ≤ code → q ≡ s
+  pub kept : Still code → q ≡ s
   pub usual : code ≡ 13 → ⊥
 
 -- a write may begin at a path: from the root (1), or from a cursor (2)

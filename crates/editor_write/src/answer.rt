@@ -10,9 +10,13 @@ ghost use Rattle.editor_terms.specs.Answers.{codeNumber};
 ghost use Rattle.editor_terms.specs.Ids.{idBytes};
 ghost use Rattle.editor.specs.Lent.{lent, Good, Does};
 ghost use Rattle.editor_write.specs.Steps.{HoldsExactly, Made};
-use editor::root::Answer;
 use editor_terms::code::Code;
 use editor_terms::id::Id;
+use editor_walk::apply::Answer;
+use names::limits::PATH_BYTES;
+use names::limits::SLOTS;
+use names::limits::TREE_BYTES;
+use names::limits::WIDTH;
 use store_slots::Record;
 
 // The start tree was requested: the write is over. From the root it alone stays cached; from a cursor it goes back to the others.
@@ -29,7 +33,7 @@ fn close(
 {
     if ed.open == 1 {
         let slot = ed.asked;
-        return store_taken::keep_only(ed, plens, paths, tlens, trees, 20, slot);
+        return store_taken::keep_only(ed, plens, paths, tlens, trees, WIDTH, slot);
     }
     store_taken::close(ed)
 }
@@ -50,8 +54,8 @@ fn go_on(
 {
     let b = editor_terms::id::bytes(id);
     let slot = ed.asked;
-    let one = editor_write_steps::links::link(ed, plens, paths, tlens, trees, 20, slot, &b);
-    let next = editor_write_steps::turn::onward(one, plens, paths, tlens, trees, order, 20);
+    let one = editor_write_steps::links::link(ed, plens, paths, tlens, trees, WIDTH, slot, &b);
+    let next = editor_write_steps::turn::onward(one, plens, paths, tlens, trees, order, WIDTH);
     let two = next.editor;
     store_taken::ask(two, next.slot)
 }
@@ -98,11 +102,11 @@ pub(crate) fn answer_accepted(
     }
     let q = answer_held(
         ed,
-        &mut plens[..64],
-        &mut paths[..8192],
-        &mut tlens[..64],
-        &mut trees[..38912],
-        &mut order[..64],
+        &mut plens[..SLOTS],
+        &mut paths[..PATH_BYTES],
+        &mut tlens[..SLOTS],
+        &mut trees[..TREE_BYTES],
+        &mut order[..SLOTS],
         id,
     );
     Answer {

@@ -7,12 +7,14 @@ ghost use Rattle.store_slots.specs.View.{startOf, pathOf};
 ghost use Rattle.store_taken.specs.Taken.{Cached};
 ghost use Rattle.editor_terms.specs.Answers.{codeNumber};
 ghost use Rattle.editor.specs.Lent.{lent, Does};
-ghost use Rattle.editor.specs.Looks.{prefixOf};
 ghost use Rattle.editor_write.specs.Steps.{HoldsExactly, Made, Answers, Starts};
-use editor::cursor::Cursor;
-use editor::root::Answer;
 use editor_terms::code::Code;
-use store_runs::runs::Found;
+use editor_walk::apply::Answer;
+use names::limits::PATH_BYTES;
+use names::limits::SLOTS;
+use names::limits::TREE_BYTES;
+use names::limits::WIDTH;
+use store_slots::Found;
 use store_slots::Record;
 
 // Begins a write at the cached tree in a slot, over slices that hold an editor with none open. `from` is 1 where it is the root's and 2 where it is a cursor's.
@@ -32,7 +34,7 @@ fn begin_slot(
 {
     let empty = Record { open: from, ..ed };
     let one = store_taken::stack(empty, order, slot);
-    let next = editor_write_steps::turn::onward(one, plens, paths, tlens, trees, order, 20);
+    let next = editor_write_steps::turn::onward(one, plens, paths, tlens, trees, order, WIDTH);
     let two = next.editor;
     store_taken::ask(two, next.slot)
 }
@@ -96,11 +98,11 @@ fn begin_from(
     }
     begin_held(
         ed,
-        &mut plens[..64],
-        &mut paths[..8192],
-        &mut tlens[..64],
-        &mut trees[..38912],
-        &mut order[..64],
+        &mut plens[..SLOTS],
+        &mut paths[..PATH_BYTES],
+        &mut tlens[..SLOTS],
+        &mut trees[..TREE_BYTES],
+        &mut order[..SLOTS],
         prefix,
         from,
     )
@@ -135,23 +137,4 @@ pub fn begin_at(
         (lent (r .ed) (now (plens .exit)) (now (paths .exit)) (now (tlens .exit)) (now (trees .exit)) (now (order .exit))) ⌝ }
 {
     begin_from(ed, plens, paths, tlens, trees, order, prefix, 2)
-}
-
-// Begins a write at the tree of a cursor.
-pub fn begin_cursor(
-    ed: Record,
-    plens: &mut [u64],
-    paths: &mut [u8],
-    tlens: &mut [u64],
-    trees: &mut [u8],
-    order: &mut [u64],
-    cursor: Cursor,
-) -> Answer
-    ensures { λ r. ⌜ Does (begun sha1 (fromCursor (prefixOf cursor))) (lent ed (now (plens .entry)) (now (paths .entry)) (now (tlens .entry)) (now (trees .entry)) (now (order .entry))) (codeNumber (r .code))
-        (lent (r .ed) (now (plens .exit)) (now (paths .exit)) (now (tlens .exit)) (now (trees .exit)) (now (order .exit))) ⌝ }
-{
-    let c = editor::cursor::sound(cursor);
-    let p = c.prefix;
-    let n = c.len;
-    begin_at(ed, plens, paths, tlens, trees, order, &p[..n])
 }

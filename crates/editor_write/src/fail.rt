@@ -6,8 +6,12 @@ ghost use Rattle.store_slots.specs.View.{Holds};
 ghost use Rattle.editor_terms.specs.Answers.{codeNumber};
 ghost use Rattle.editor.specs.Lent.{lent, Does};
 ghost use Rattle.editor_write.specs.Steps.{Made};
-use editor::root::Answer;
 use editor_terms::code::Code;
+use editor_walk::apply::Answer;
+use names::limits::PATH_BYTES;
+use names::limits::SLOTS;
+use names::limits::TREE_BYTES;
+use names::limits::WIDTH;
 use store_slots::Record;
 
 // A failure over slices that hold an editor with an open write.
@@ -23,8 +27,8 @@ fn fail_held(
     ensures { λ q. ⌜ Made failed (lent ed (now (plens .entry)) (now (paths .entry)) (now (tlens .entry)) (now (trees .entry)) (now (order .entry)))
         (lent q (now (plens .exit)) (now (paths .exit)) (now (tlens .exit)) (now (trees .exit)) (now (order .entry))) ⌝ }
 {
-    let start = store_taken::start(ed, order);
-    let one = store_taken::drop_others(ed, plens, paths, tlens, trees, 20, start);
+    let start = store_slots::start(ed, order);
+    let one = store_taken::drop_others(ed, plens, paths, tlens, trees, WIDTH, start);
     store_taken::close(one)
 }
 
@@ -54,11 +58,11 @@ pub fn fail(
     }
     let q = fail_held(
         ed,
-        &mut plens[..64],
-        &mut paths[..8192],
-        &mut tlens[..64],
-        &mut trees[..38912],
-        &order[..64],
+        &mut plens[..SLOTS],
+        &mut paths[..PATH_BYTES],
+        &mut tlens[..SLOTS],
+        &mut trees[..TREE_BYTES],
+        &order[..SLOTS],
     );
     Answer {
         code: Code::Done,

@@ -11,7 +11,7 @@ use editor_terms::id::Id;
 use store_slots::Record;
 
 // What an answer gave, the editor after it, and what reading the next request gave.
-pub struct Next {
+pub struct AnsweredAndRead {
     pub code: Code,
     pub ed: Record,
     pub next: Asked,
@@ -27,13 +27,13 @@ pub fn answer_and_request(
     order: &mut [u64],
     id: Id,
     out: &mut [u8],
-) -> Next
+) -> AnsweredAndRead
     ensures { λ r. ⌜ Does (answered sha1 (idBytes id)) (lent ed (now (plens .entry)) (now (paths .entry)) (now (tlens .entry)) (now (trees .entry)) (now (order .entry))) (codeNumber (r .code))
         (lent (r .ed) (now (plens .exit)) (now (paths .exit)) (now (tlens .exit)) (now (trees .exit)) (now (order .exit)))
         × Requests (lent (r .ed) (now (plens .exit)) (now (paths .exit)) (now (tlens .exit)) (now (trees .exit)) (now (order .exit))) (r .next .code) (r .next .len) (r .next .at) (now (out .entry)) (now (out .exit)) ⌝ }
 {
     if !store_check::holds::holds(ed, plens, paths, tlens, trees, order) {
-        return Next {
+        return AnsweredAndRead {
             code: Code::StoreDamaged,
             ed,
             next: crate::request::refused(Code::StoreDamaged),
@@ -43,7 +43,7 @@ pub fn answer_and_request(
     let code = a.code;
     let now = a.ed;
     let next = crate::request::request_accepted(now, plens, paths, tlens, trees, out);
-    Next {
+    AnsweredAndRead {
         code,
         ed: now,
         next,

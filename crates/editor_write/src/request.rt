@@ -15,6 +15,10 @@ ghost use Rattle.editor.specs.Looks.{cursorAt};
 ghost use Rattle.editor_write.specs.Requests.{placeIn, Shows, Requests};
 use editor::cursor::Cursor;
 use editor_terms::code::Code;
+use names::limits::PATH_BYTES;
+use names::limits::SLOTS;
+use names::limits::TREE_BYTES;
+use names::limits::WIDTH;
 use store_slots::Record;
 
 // The answer, how long the raw tree is that was written to the front of the output, and where the tree belongs; the root where it is refused.
@@ -49,13 +53,12 @@ fn request_held(
         → Shows (λ m. show m E) (r .code) (r .len) (now (out .entry)) (now (out .exit)) × (r .at ≡ cursorAt (placeIn (show (length (now (out .entry))) E) (requested E)))) ⌝ }
 {
     let slot = ed.asked;
-    let n = store_trees::raw::raw_len_of(ed, tlens, trees, 20, slot);
+    let n = store_trees::raw::raw_len_of(ed, tlens, trees, WIDTH, slot);
     if out.len() < n {
         return refused(Code::OutputShort(n));
     }
-    let len = store_trees::raw::put_raw(ed, tlens, trees, 20, slot, out);
-    let np = ed.paths;
-    let at = editor::cursor::at(store_runs::runs::run(plens, paths, np, slot));
+    let len = store_trees::raw::put_raw(ed, tlens, trees, WIDTH, slot, out);
+    let at = editor::cursor::at(store_slots::path_in(ed, plens, paths, slot));
     Asked {
         code: Code::Done,
         len,
@@ -81,10 +84,10 @@ pub(crate) fn request_accepted(
     }
     request_held(
         ed,
-        &plens[..64],
-        &paths[..8192],
-        &tlens[..64],
-        &trees[..38912],
+        &plens[..SLOTS],
+        &paths[..PATH_BYTES],
+        &tlens[..SLOTS],
+        &trees[..TREE_BYTES],
         out,
     )
 }

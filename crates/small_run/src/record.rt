@@ -83,7 +83,7 @@ fn apply(
     lines::hex::decode(&mut path, 0, digits);
     let p = names::part::front(&path, digits.len() / 2);
     let ends = [0u32; 0];
-    editor::edit::edited(
+    editor::edit::edit(
         ed,
         plens,
         paths,

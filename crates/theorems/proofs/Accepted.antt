@@ -1,5 +1,5 @@
 -- Every store that the public calls leave is accepted: each statement says that the store afterwards holds an editor, or that it is as it was. Assumes nothing.
-use Prim.Native.Nat.{ℕ, _≤_}
+use Prim.Native.Nat.{ℕ}
 use mathlib.Core.Path.{_≡_, refl, sym, ap, _∙_, subst}
 use mathlib.Core.Bool.{Bool, true, false, not}
 use mathlib.Core.List.{List, [], _∷_}
@@ -16,7 +16,7 @@ use Rattle.model.specs.Formats.{sha1}
 use Rattle.model.specs.Walk as walks
 use Rattle.model.specs.Calls.{Answer, refuseIf, rooted, rootOnly}
 use Rattle.model.specs.Order.{All}
-use Rattle.editor.specs.Lent.{Lent, Long, Good, viewed, Does}
+use Rattle.editor.specs.Lent.{Lent, Long, Good, viewed, Still, Does}
 use Rattle.editor.specs.Roots.{Roots, Makes}
 use Rattle.theorems.specs.Public.{does, Public, new, call, Says, Made}
 
@@ -36,12 +36,12 @@ unfolding sha1
 good-long s g = record { plens = g .plens-room; paths = g .paths-room; tlens = g .tlens-room; trees = g .trees-room; order = g .order-room }
 
 -- the numbers of a new root are 0, 5 and 12
-rooted-number : (E : Model) (o : Option Tree) → (((rooted E o) .code ≡ 0 → ⊥) → 5 ≤ (rooted E o) .code)
+rooted-number : (E : Model) (o : Option Tree) → (((rooted E o) .code ≡ 0 → ⊥) → Still ((rooted E o) .code))
 unfolding rooted refuseIf
 rooted-number E none = λ h. omega arith
 rooted-number E (some t) = go (not (fits (rootOnly t .cached)))
   where
-    go : (b : Bool) → ((refuseIf b 5 E (record { code = 0; editor = rootOnly t }) .code ≡ 0 → ⊥) → 5 ≤ refuseIf b 5 E (record { code = 0; editor = rootOnly t }) .code)
+    go : (b : Bool) → ((refuseIf b 5 E (record { code = 0; editor = rootOnly t }) .code ≡ 0 → ⊥) → Still (refuseIf b 5 E (record { code = 0; editor = rootOnly t }) .code))
     go true h = omega arith
     go false h = absurd (h refl)
 
@@ -60,7 +60,7 @@ makes-keeps raw s c q m g = (n, go (eqb c 0) refl)
     go : (b : Bool) → eqb c 0 ≡ b → Good q
     go true e = d .good (eqb-true c 0 e)
     go false e =
-        let h : 5 ≤ (rooted (viewed s) (readTree 20 raw)) .code = rooted-number (viewed s) (readTree 20 raw) (λ z. eqb-false c 0 e (sym number ∙ z)) in
+        let h : Still ((rooted (viewed s) (readTree 20 raw)) .code) = rooted-number (viewed s) (readTree 20 raw) (λ z. eqb-false c 0 e (sym number ∙ z)) in
         subst Good (sym (d .kept (omega (arith, h, number)))) g
 
 -- over a store that holds an editor

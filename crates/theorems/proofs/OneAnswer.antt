@@ -16,7 +16,7 @@ use Rattle.model.specs.Table.{Table, goodTable}
 use Rattle.model.specs.Editor.{Held, at, Cache, Start, startPath, Write, treeAt, fits, fromRoot, fromCursor}
 use Rattle.model.specs.Editor.{Editor as Model}
 use Rattle.model.specs.Formats.{sha1}
-use Rattle.model.specs.Walk.{Edit, Walked, walk, ANY, LEAF}
+use Rattle.model.specs.Walk.{Edit, Walked, walk}
 use Rattle.model.specs.Walk as walks
 use Rattle.model.specs.Measure.{countsOf}
 use Rattle.model.specs.Calls.{Answer, refuseIf, settled, edited, opened, rooted, rootOnly, setRoot}
@@ -26,9 +26,9 @@ use Rattle.model.specs.Order.{idle}
 use Rattle.model.proofs.LowNumbers.{measured-low}
 use Rattle.model.proofs.MeasureRight.{measure-code}
 use Rattle.model.specs.Lookup.{found, looked}
-use Rattle.names.specs.Answers.{asMode}
 use Rattle.names.proofs.AnswerLaws.{one-kind}
 use Rattle.editor_terms.specs.Answers.{codeNumber}
+use Rattle.editor_terms.specs.Edits.{asEdit}
 use Rattle.editor_terms.specs.Ids.{idBytes}
 use Rattle.editor_terms.specs.declared.code.Code.{Code}
 use Rattle.editor_terms.specs.declared.code.Code.the-variants.{Done, EmptyComponent, TreeNotFound, TreeDamaged, NotALeaf, NoRoom, PathRefused, BadTable, CursorStale, WriteOpen, NoWriteOpen, OutputShort, BadRoot, StoreDamaged}
@@ -37,13 +37,13 @@ use Rattle.editor_walk.specs.Lookups.{lookedAs}
 use Rattle.editor_walk.specs.declared.look.Looked.{Looked}
 use Rattle.editor_walk.specs.declared.look.Looked.the-variants.{Found, Missing, Refused}
 use Rattle.editor.specs.Lent.{Lent, Good, viewed, Does}
-use Rattle.editor.specs.Looks.{Looks, prefixOf}
+use Rattle.editor.specs.Looks.{Looks}
 use Rattle.editor.specs.Roots.{Makes}
 use Rattle.editor.specs.declared.cursor.Cursor.{Cursor}
-use Rattle.editor.proofs.Decided.{Same, same-look, same-does, same-makes}
+use Rattle.editor.proofs.SameAnswers.{Same, same-look, same-does, same-makes}
 use Rattle.editor.proofs.LookLaws.{refusalOf, looked-low}
 use Rattle.editor_write.proofs.Theorems.{viewed-valid}
-use Rattle.theorems.specs.Public.{Call, does, Public, new, call, Says, Opens, set-root, upsert, remove, remove-leaf, cursor-at, upsert-below, remove-below, remove-leaf-below, begin, begin-at, begin-cursor, answer, answer-and-request, fail}
+use Rattle.theorems.specs.Public.{Call, does, Public, new, call, Says, Opens, set-root, edit, cursor-at, begin, begin-at, answer, answer-and-request, fail}
 
 -- ---- the number decides the case
 
@@ -141,7 +141,7 @@ failed-of c (some w) = λ z. omega (arith, z)
 
 -- ---- calls that change a store
 
--- two answers are the same: the case, with the number; the editor; what lies behind the fronts; and each byte where the number is 5 or more
+-- two answers are the same: the case, with the number; the editor; what lies behind the fronts; and each byte where the number says that nothing has changed
 pub record One (k : Code) (q : Lent) (k′ : Code) (q′ : Lent) : Type 0 where
   pub code : k ≡ k′
   pub store : Same (codeNumber k) q (codeNumber k′) q′
@@ -173,16 +173,10 @@ opened-not T path E v = edited-not T (walks.upsert TREE (null (sha1 .width))) tr
 
 not-11 : (x : Call) (E : Model) → valid sha1 E ≡ true → Not11 (does x E)
 not-11 (set-root raw) E v = root-not raw E
-not-11 (upsert T kind id path) E v = edited-not T (walks.upsert (asMode kind) (idBytes id)) false [] path E v
-not-11 (remove T path) E v = edited-not T (walks.remove ANY) false [] path E v
-not-11 (remove-leaf T path) E v = edited-not T (walks.remove LEAF) false [] path E v
+not-11 (edit T e opening prefix path) E v = edited-not T (asEdit e) opening prefix path E v
 not-11 (cursor-at T path) E v = opened-not T path E v
-not-11 (upsert-below T cursor kind id path) E v = edited-not T (walks.upsert (asMode kind) (idBytes id)) false (prefixOf cursor) path E v
-not-11 (remove-below T cursor path) E v = edited-not T (walks.remove ANY) false (prefixOf cursor) path E v
-not-11 (remove-leaf-below T cursor path) E v = edited-not T (walks.remove LEAF) false (prefixOf cursor) path E v
 not-11 begin E v = begun-not fromRoot E
 not-11 (begin-at prefix) E v = begun-not (fromCursor prefix) E
-not-11 (begin-cursor cursor) E v = begun-not (fromCursor (prefixOf cursor)) E
 not-11 (answer id) E v = answered-of (idBytes id) (E .cached) (E .writing)
 not-11 (answer-and-request id) E v = answered-of (idBytes id) (E .cached) (E .writing)
 not-11 fail E v = failed-of (E .cached) (E .writing)
@@ -224,7 +218,7 @@ one-looked n (Refused c) (Found k i) l e = absurd (let z : _≡_ {A = ℕ} 0 1 =
 one-looked n (Refused c) Missing l e = absurd (let z : _≡_ {A = ℕ} 0 1 = cc in omega arith)
 one-looked n (Refused c) (Refused c′) l e = ap Refused (one-code c c′ l (ap refusalOf e))
 
--- `look::get` with no prefix, and `cursor::get` with its cursor's: two answers are equal
+-- two answers of `look::get` are equal
 pub one-lookup : (prefix path : Bytes) (s : Lent) (r r′ : Looked) → Looks prefix path s (lookedAs (base path) r) → Looks prefix path s (lookedAs (base path) r′) → r ≡ r′
 one-lookup prefix path s r r′ l l′ = one-looked (base path) r r′ not-11 (same-look prefix path s (lookedAs (base path) r) (lookedAs (base path) r′) l l′)
   where

@@ -15,7 +15,7 @@ use Rattle.editor_terms.specs.declared.id.Id.{Id}
 use Rattle.editor.specs.Lent.{Lent, Good, viewed}
 use Rattle.editor.specs.declared.cursor.Cursor.{Cursor}
 use Rattle.editor_write.specs.Requests.{Requests}
-use Rattle.editor_write.proofs.Decided.{Same, same-request}
+use Rattle.editor_write.proofs.SameAnswers.{Same, same-request}
 use Rattle.theorems.specs.Public.{call, Proceeds, answer-and-request}
 use Rattle.theorems.specs.Runs.{Reads, Asks, Goes, Nexts}
 use Rattle.theorems.proofs.Accepted.{accepted}

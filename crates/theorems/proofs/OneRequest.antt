@@ -19,7 +19,7 @@ use Rattle.editor.specs.Lent.{Lent, Good, viewed}
 use Rattle.editor.specs.declared.cursor.Cursor.{Cursor}
 use Rattle.editor.specs.Looks.{cursorAt}
 use Rattle.editor_write.specs.Requests.{Requests, Shows, placeIn}
-use Rattle.editor_write.proofs.Decided.{Same, same-request}
+use Rattle.editor_write.proofs.SameAnswers.{Same, same-request}
 
 -- over two stores that hold one editor a request is answered the same
 moved : (s s′ : Lent) (before : Bytes) (k : Code) (n : ℕ) (p : Cursor) (after : Bytes) → Good s → Good s′ → viewed s ≡ viewed s′ → Requests s′ k n p before after → Requests s k n p before after

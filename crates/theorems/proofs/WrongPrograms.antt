@@ -30,7 +30,7 @@ use Rattle.editor.specs.Looks.{Looks}
 use Rattle.editor.specs.Roots.{Roots}
 use Rattle.editor.specs.declared.cursor.Cursor.{Cursor}
 use Rattle.editor_write.specs.Requests.{shownNumber}
-use Rattle.theorems.specs.Examples.{a, first, put-a, put-ab, script}
+use Rattle.theorems.specs.Examples.{a, first, put-a, put-ab, script, refusals}
 use Rattle.theorems.specs.Public.{Call, does, new, call, Says, Made, Proceeds, begin, answer}
 use Rattle.theorems.specs.Runs.{given}
 use Rattle.theorems.proofs.Accepted.{all-accepted}
@@ -100,6 +100,16 @@ no-refuser s q [] l m = absurd m
 no-refuser s q (n ∷ ns) l (t, d, r) =
     let (z, g, v) = made-empty s t n l d in
     ap₂ _∷_ z (follow script ns t q (rootOnly []) g v r .0 ∙ script-done)
+
+-- ---- a call that accepts everything
+
+refusals-told : numbers refusals (rootOnly []) ≡ 12 ∷ 7 ∷ 8 ∷ 6 ∷ 10 ∷ 0 ∷ 9 ∷ []
+unfolding computing
+refusals-told = refl
+
+-- over an empty root these calls are refused, each with its number
+pub no-accepter : (s q : Lent) (ns : List ℕ) → Good s → viewed s ≡ rootOnly [] → Made (map call refusals) ns s q → ns ≡ 12 ∷ 7 ∷ 8 ∷ 6 ∷ 10 ∷ 0 ∷ 9 ∷ []
+no-accepter s q ns g v m = follow refusals ns s q (rootOnly []) g v m .0 ∙ refusals-told
 
 -- ---- an upsert that does nothing
 

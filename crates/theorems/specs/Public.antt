@@ -1,7 +1,7 @@
 -- The public calls that change a store, each with what it is given, and what its contract says of it, in the contract's words. Assumes nothing.
 use Prim.Native.Nat.{ℕ}
 use mathlib.Core.Path.{_≡_}
-use mathlib.Core.Bool.{false}
+use mathlib.Core.Bool.{Bool}
 use mathlib.Core.List.{List, [], _∷_}
 use Rattle.model.specs.Bytes.{Bytes}
 use Rattle.model.specs.Table.{Table}
@@ -9,47 +9,37 @@ use Rattle.model.specs.Editor.{fromRoot, fromCursor}
 use Rattle.model.specs.Editor.{Editor as Model}
 use Rattle.model.specs.Formats.{sha1}
 use Rattle.model.specs.Calls as model
-use Rattle.model.specs.Walk as walk
 use Rattle.model.specs.Write as write
-use Rattle.names.specs.Answers.{asMode}
-use Rattle.names.specs.declared.mode.EntryKind.{EntryKind}
 use Rattle.editor_terms.specs.Answers.{codeNumber}
+use Rattle.editor_terms.specs.Edits.{asEdit}
 use Rattle.editor_terms.specs.Ids.{idBytes}
 use Rattle.editor_terms.specs.declared.code.Code.{Code}
+use Rattle.editor_terms.specs.declared.edit.Edit.{Edit}
 use Rattle.editor_terms.specs.declared.id.Id.{Id}
 use Rattle.editor.specs.Lent.{Lent, Does}
-use Rattle.editor.specs.Looks.{prefixOf, cursorAt}
+use Rattle.editor.specs.Looks.{cursorAt}
 use Rattle.editor.specs.Roots.{Makes}
 use Rattle.editor.specs.declared.cursor.Cursor.{Cursor}
 use Rattle.editor_write.specs.Requests.{Requests}
 
--- `editor`: root::set_root; edit::upsert, edit::remove, edit::remove_leaf; below::cursor_at; below::upsert, below::remove, below::remove_leaf;
--- `writing`: begin::begin, begin::begin_at, begin::begin_cursor; answer::answer; next::answer_and_request; fail::fail
+-- `editor`: root::set_root; edit::edit, with the edit, whether it opens a cursor, the prefix and the path; cursor::cursor_at;
+-- `editor_write`: begin::begin, begin::begin_at; answer::answer; next::answer_and_request; fail::fail
 pub data Call : Type 0 where
   set-root : Bytes → Call
-  upsert : Table → EntryKind → Id → Bytes → Call
-  remove remove-leaf cursor-at : Table → Bytes → Call
-  upsert-below : Table → Cursor → EntryKind → Id → Bytes → Call
-  remove-below remove-leaf-below : Table → Cursor → Bytes → Call
+  edit : Table → Edit → Bool → Bytes → Bytes → Call
+  cursor-at : Table → Bytes → Call
   begin : Call
   begin-at : Bytes → Call
-  begin-cursor : Cursor → Call
   answer answer-and-request : Id → Call
   fail : Call
 
 -- what the contract says that the call does to the editor that is held
 abbrev pub does : Call → Model → model.Answer
 does (set-root raw) = model.setRoot sha1 raw
-does (upsert T kind id path) = model.edited sha1 T (walk.upsert (asMode kind) (idBytes id)) false [] path
-does (remove T path) = model.edited sha1 T (walk.remove walk.ANY) false [] path
-does (remove-leaf T path) = model.edited sha1 T (walk.remove walk.LEAF) false [] path
+does (edit T e opening prefix path) = model.edited sha1 T (asEdit e) opening prefix path
 does (cursor-at T path) = model.opened sha1 T path
-does (upsert-below T cursor kind id path) = model.edited sha1 T (walk.upsert (asMode kind) (idBytes id)) false (prefixOf cursor) path
-does (remove-below T cursor path) = model.edited sha1 T (walk.remove walk.ANY) false (prefixOf cursor) path
-does (remove-leaf-below T cursor path) = model.edited sha1 T (walk.remove walk.LEAF) false (prefixOf cursor) path
 does begin = write.begun sha1 fromRoot
 does (begin-at prefix) = write.begun sha1 (fromCursor prefix)
-does (begin-cursor cursor) = write.begun sha1 (fromCursor (prefixOf cursor))
 does (answer id) = write.answered sha1 (idBytes id)
 does (answer-and-request id) = write.answered sha1 (idBytes id)
 does fail = write.failed

@@ -1,5 +1,6 @@
--- `adapter::edit::tree_editor_cursor_at` meets its contract: a walk of its MIR. The borrow of the record is opened, the record is copied out, `cursor_at` is called with what is owned of the other parameters,
--- the record that it returns is stored back, and the borrow is closed. All that the proof knows of the callee is that it meets its contract. Assumes nothing.
+-- `adapter::edit::tree_editor_cursor_at` meets its contract: its record is read out, given to `adapter_numbers::edit::cursor_at`, and what comes back is stored. A walk of its code, written by tools/thin.py: the borrow of
+-- the record is opened, the record is copied out, the callee is called with what is owned of the other parameters, the record that it returns is stored back, and the borrow is closed. Of the callee
+-- only its contract is known. Assumes nothing.
 use mathlib.Core.Path.{refl, ap}
 use Prim.Native.Nat.{ℕ}
 use mathlib.Core.List.{[], _∷_, List}
@@ -31,8 +32,6 @@ use denote.Slice.{sliceVal, MutSlice, ShrSlice, slice-vals, mut-slice-tells, shr
 use denote.Signature.{plain}
 use denote.Steps.{only, opens, closes, owned, peeks, heard}
 use denote.Struct.Steps.{spelt}
-use denote.Struct.Laws as SL
-use denote.Enum.Laws as EL
 use denote.Triple.Entry.{onEntry}
 use denote.Triple.Spec.{Meets, tripleOf}
 use denote.Triple.Statement.{Contract, Triple}
@@ -40,10 +39,11 @@ use denote.Triple.Call.{calls-at}
 use denote.Triple.Clauses.{ensured, lasts}
 use denote.Triple.Table.{entered, cited}
 use denote.Triple.Walked.{says, Stays, stay-ref, walkOf, goes-ref, Walks, ends-at, walked, walk-meets}
+use denote.Struct.Laws as SL
 use Rattle.adapter.proofs.Said.{restOf, saids, saids-go, with-emp}
 use Rattle.store_slots.specs.declared.Record.{Record}
-use Rattle.store_slots.proofs.Record as EditorT
-use Rattle.store_slots.proofs.Record.Laws as EditorL
+use Rattle.store_slots.proofs.Record as RecordT
+use Rattle.store_slots.proofs.Record.Laws as RecordL
 use Rattle.adapter_numbers.specs.declared.Numbered.{Numbered}
 use Rattle.adapter_numbers.proofs.Numbered as NumberedT
 use Rattle.adapter_numbers.proofs.Numbered.Laws as NumberedL
@@ -56,8 +56,8 @@ use Rattle.adapter.proofs.edit.tree_editor_cursor_at as self
 use Rattle.adapter.proofs.edit.tree_editor_cursor_at.Statement as stated
 use Rattle.adapter.proofs.edit.tree_editor_cursor_at.Code as code
 use Rattle.model.specs.Formats.{sha1}
-use Rattle.editor.specs.Lent.{lent, Does}
 use Rattle.editor_terms.specs.Objects.{tableOf}
+use Rattle.editor.specs.Lent.{lent, Does}
 use Rattle.model.specs.Calls as model
 
 abbrev stayed : Stays (self.ended .signature .params) (self.ended .kept)

@@ -4,24 +4,6 @@ use borrow.Author.Needs.{needs}
 use Rattle.adapter_numbers.proofs.edit.cursor_at.Statement.{statement}
 use Rattle.adapter_numbers.proofs.edit.cursor_at.Tie as tie
 
-cursor-at-requires : tie.Need-cursor-at-requires
-cursor-at-requires c κs = search needs
-
-number-requires : tie.Need-number-requires
-number-requires c κs = search needs
-
-same-length : tie.Need-same-length
-same-length c = search needs
-
-same-length-2 : tie.Need-same-length-2
-same-length-2 c = search needs
-
-same-length-3 : tie.Need-same-length-3
-same-length-3 c = search needs
-
-same-length-4 : tie.Need-same-length-4
-same-length-4 c = search needs
-
 returns : tie.Need-returns
 returns c = does-number (c .number .ensures) (c .before .before .before .before .before .before .before .before .before .before .cursor-at .ensures .0)
 
@@ -29,10 +11,10 @@ pub cursor-at-spec : {M : Type 1} → statement M
 cursor-at-spec =
     tie.close
     (tie.spec
-    cursor-at-requires
-    number-requires
-    same-length
-    same-length-2
-    same-length-3
-    same-length-4
+    (λ c κs. search needs)
+    (λ c κs. search needs)
+    (λ c. search needs)
+    (λ c. search needs)
+    (λ c. search needs)
+    (λ c. search needs)
     returns)

@@ -9,12 +9,6 @@ use borrow.Author.Needs.{needs}
 use Rattle.editor.proofs.root.root_only.Statement.{statement}
 use Rattle.editor.proofs.root.root_only.Tie as tie
 
-drop-all-requires : tie.Need-drop-all-requires
-drop-all-requires c κs = search needs
-
-front-requires : tie.Need-front-requires
-front-requires c κs = search needs
-
 load-requires : tie.Need-load-requires
 load-requires c κs =
     let f = c .before .before .before .before in
@@ -23,18 +17,6 @@ load-requires c κs =
     let a = s .args in
     let x = d .drop-all .ensures in
     (x .1 .0, omega arith, ap (λ (r : Record). r .hidden) (x .1 .1) ∙ sym (ap (λ (r : Record). r .free) (x .1 .1)), s .pre .4, no-root-yet _ _ (x .0), λ t e. root-fits _ t _ (f .front .ensures) (x .0) (omega (arith, s .pre .5, as-many 20 (a .raw .now) (a .entries) (a .name-bytes) (s .pre .4) t e)) (omega (arith, s .pre .6, as-long 20 (a .raw .now) (a .entries) (a .name-bytes) (s .pre .4) t e)))
-
-same-length : tie.Need-same-length
-same-length c = search needs
-
-same-length-2 : tie.Need-same-length-2
-same-length-2 c = search needs
-
-same-length-3 : tie.Need-same-length-3
-same-length-3 c = search needs
-
-same-length-4 : tie.Need-same-length-4
-same-length-4 c = search needs
 
 returns : tie.Need-returns
 returns c t e order k =
@@ -56,11 +38,11 @@ pub root-only-spec : {M : Type 1} → statement M
 root-only-spec =
     tie.close
     (tie.spec
-    drop-all-requires
-    front-requires
+    (λ c κs. search needs)
+    (λ c κs. search needs)
     load-requires
-    same-length
-    same-length-2
-    same-length-3
-    same-length-4
+    (λ c. search needs)
+    (λ c. search needs)
+    (λ c. search needs)
+    (λ c. search needs)
     returns)

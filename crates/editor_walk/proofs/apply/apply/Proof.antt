@@ -7,7 +7,7 @@ use Rattle.model.specs.Tree.{withEntry}
 use Rattle.model.specs.Editor.{at, fits, _↝_}
 use Rattle.names.specs.Answers.{entry}
 use Rattle.store_slots.specs.View.{viewOf, pathOf, treeOf}
-use Rattle.store_entries.proofs.Calls.{unchanged, edited-same}
+use Rattle.store_entries.proofs.EditLaws.{unchanged, edited-same}
 use Rattle.editor_terms.specs.Edits.{changed}
 use Rattle.editor_terms.specs.declared.edit.Turn.{Turn}
 use Rattle.editor_walk.specs.Steps.{PutFits}

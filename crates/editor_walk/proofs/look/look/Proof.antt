@@ -10,7 +10,7 @@ use Rattle.model.specs.Bytes.{has}
 use Rattle.model.specs.Tree.{wellFormed}
 use Rattle.names_compact.specs.Compact.{Run, unpack}
 use Rattle.store_slots.specs.View.{viewOf, pathOf}
-use Rattle.store_slots.proofs.Calls.{searched-run, tree-run}
+use Rattle.store_slots.proofs.Changes.{searched-run, tree-run}
 use Rattle.names.proofs.FrontLaws.{front-long, piece-short}
 use Rattle.editor_walk.proofs.ComponentLaws.{piece-plain}
 use Rattle.editor_walk.proofs.LookupLaws.{Looking, look-begin, look-empty, look-over, look-shorter, look-next}
@@ -18,11 +18,11 @@ use Rattle.editor_walk.proofs.look.look.Statement.{statement}
 use Rattle.editor_walk.proofs.look.look.Tie as tie
 
 abbrev Inv-loop : tie.InvT-loop
-Inv-loop ed plens paths tlens trees full path slot nt p₀ at₀ p at =
+Inv-loop ed plens paths tlens trees full path slot p₀ at₀ p at =
     Looking ed plens paths tlens trees full (model.look (components path) (pathOf plens paths slot) (viewOf 20 ed plens paths tlens trees)) path p at
 
 abbrev μ-loop : tie.MeasureT-loop
-μ-loop ed plens paths tlens trees full path slot nt p₀ at₀ p at = length p
+μ-loop ed plens paths tlens trees full path slot p₀ at₀ p at = length p
 
 returns : tie.Need-returns Inv-loop μ-loop
 returns c =
@@ -45,8 +45,8 @@ sub-end c = omega (arith, front-long (c .before .loop .inv .front))
 add-end : tie.Need-add-end Inv-loop μ-loop
 add-end c = omega (arith, front-long (c .before .loop .inv .front), piece-short (c .before .loop .p .now) (c .component-len .result) (c .component-len .ensures))
 
-run-requires : tie.Need-run-requires Inv-loop μ-loop
-run-requires c κs =
+tree-in-requires : tie.Need-tree-in-requires Inv-loop μ-loop
+tree-in-requires c κs =
     let s = c .before .before .before .before .before .before .before .before .before in
     (s .pre .0 .trees-sound, omega (arith, s .pre .0 .tlens-64, c .before .loop .inv .used .low))
 
@@ -62,7 +62,7 @@ look-in-requires c κs =
     let l = n .before in
     let s = l .before .before .before .before .before .before .before .before in
     let a = s .args in
-    let run = c .before .before .run .ensures in
+    let run = c .before .before .tree-in .ensures in
     let low = l .loop .inv .used .low in (
       s .pre .0 .paths-sound,
       s .pre .0 .plens-64,
@@ -82,7 +82,7 @@ returns-2 c =
     let n = f .before .before .before in
     let l = n .before in
     let s = l .before .before .before .before .before .before .before .before in
-    look-over (l .loop .inv) (s .pre .0) (s .pre .1) (n .component-len .ensures) refl (f .before .before .run .ensures) refl (f .before .front .ensures) (f .front2 .ensures) (k .look-in .ensures) (x .r .given .1)
+    look-over (l .loop .inv) (s .pre .0) (s .pre .1) (n .component-len .ensures) refl (f .before .before .tree-in .ensures) refl (f .before .front .ensures) (f .front2 .ensures) (k .look-in .ensures) (x .r .given .1)
 
 enum-known-s : tie.Need-enum-known-s Inv-loop μ-loop
 enum-known-s c = search needs
@@ -98,7 +98,7 @@ loop-less c =
     let n = f .before .before .before in
     let l = n .before in
     let s = l .before .before .before .before .before .before .before .before in
-    let d = look-shorter (l .loop .inv) (s .pre .0) (s .pre .1) (n .component-len .ensures) refl (f .before .before .run .ensures) refl (f .before .front .ensures) (f .front2 .ensures) (k .look-in .ensures) (x .s .given .1) in
+    let d = look-shorter (l .loop .inv) (s .pre .0) (s .pre .1) (n .component-len .ensures) refl (f .before .before .tree-in .ensures) refl (f .before .front .ensures) (f .front2 .ensures) (k .look-in .ensures) (x .s .given .1) in
     omega (arith, d, ap length (c .tail .ensures), length-drop (n .component-len .result + 1) (l .loop .p .now))
 
 loop-again : tie.Need-loop-again Inv-loop μ-loop
@@ -109,7 +109,7 @@ loop-again c =
     let n = f .before .before .before in
     let l = n .before in
     let s = l .before .before .before .before .before .before .before .before in
-    look-next (l .loop .inv) (s .pre .0) (s .pre .1) (n .component-len .ensures) refl (f .before .before .run .ensures) refl (f .before .front .ensures) (f .front2 .ensures) (k .look-in .ensures) (x .s .given .1) (c .tail .ensures)
+    look-next (l .loop .inv) (s .pre .0) (s .pre .1) (n .component-len .ensures) refl (f .before .before .tree-in .ensures) refl (f .before .front .ensures) (f .front2 .ensures) (k .look-in .ensures) (x .s .given .1) (c .tail .ensures)
 
 pub look-spec : {M : Type 1} → statement M
 look-spec =
@@ -122,7 +122,7 @@ look-spec =
     component-len-requires
     sub-end
     add-end
-    run-requires
+    tree-in-requires
     front-requires
     front-requires-2
     look-in-requires

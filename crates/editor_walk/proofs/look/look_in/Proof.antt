@@ -7,7 +7,7 @@ use Rattle.model.proofs.SoundTrees.{sound-well}
 use Rattle.names_compact.specs.Compact.{unpack}
 use Rattle.store_runs.specs.Digits.{digits}
 use Rattle.store_runs.specs.Runs.{cut}
-use Rattle.store_runs.proofs.Laws.{length-cut}
+use Rattle.store_runs.proofs.RunLaws.{length-cut}
 use Rattle.store_runs.proofs.DigitLaws.{length-digits}
 use Rattle.store_runs.specs.declared.runs.Found.{Found}
 use Rattle.store_slots.specs.View.{SlotIs}

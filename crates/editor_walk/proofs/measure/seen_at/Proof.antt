@@ -14,8 +14,8 @@ use Rattle.editor_walk.proofs.measure.seen_at.Tie as tie
 enum-known-level : tie.Need-enum-known-level
 enum-known-level c = search needs
 
-run-requires : tie.Need-run-requires
-run-requires c κs =
+tree-in-requires : tie.Need-tree-in-requires
+tree-in-requires c κs =
     let x = c .before in
     let s = x .before .before .before .before .before .before in
     let y = stands-as (s .args .tlens .now) (s .args .trees .now) (s .args .raws .now) (s .pre .1 .0) (x .level .given .1) (s .pre .1 .1) in
@@ -27,8 +27,8 @@ seen-in-requires c κs =
     let s = x .before .before .before .before .before .before in
     let k = x .level .given .0 .0 in
     let y = stands-as (s .args .tlens .now) (s .args .trees .now) (s .args .raws .now) (s .pre .1 .0) (x .level .given .1) (s .pre .1 .1) in (
-      subst (Run 20) (sym (c .run .ensures)) (s .pre .0 .runs k (y .0)),
-      ap (λ (t : Tree). rising key t) (ap (unpack 20) (c .run .ensures) ∙ stored-tree (s .pre .0) k (y .0)) ∙ s .pre .0 .order k (y .0),
+      subst (Run 20) (sym (c .tree-in .ensures)) (s .pre .0 .runs k (y .0)),
+      ap (λ (t : Tree). rising key t) (ap (unpack 20) (c .tree-in .ensures) ∙ stored-tree (s .pre .0) k (y .0)) ∙ s .pre .0 .order k (y .0),
     )
 
 enum-known-level-2 : tie.Need-enum-known-level-2
@@ -57,7 +57,7 @@ returns c =
     record {
       is = λ t h.
           let y = stands-as (s .args .tlens .now) (s .args .trees .now) (s .args .raws .now) t (x .level .given .1) h in
-          c .seen-in .ensures ∙ ap (λ (z : Tree). partsOf (entryOf (s .args .name .now) z)) (ap (unpack 20) (r .run .ensures) ∙ stored-tree (s .pre .0) (x .level .given .0 .0) (y .0) ∙ sym (y .1));
+          c .seen-in .ensures ∙ ap (λ (z : Tree). partsOf (entryOf (s .args .name .now) z)) (ap (unpack 20) (r .tree-in .ensures) ∙ stored-tree (s .pre .0) (x .level .given .0 .0) (y .0) ∙ sym (y .1));
     }
 
 returns-2 : tie.Need-returns-2
@@ -81,7 +81,7 @@ seen-at-spec =
     tie.close
     (tie.spec
     enum-known-level
-    run-requires
+    tree-in-requires
     seen-in-requires
     enum-known-level-2
     sub-between

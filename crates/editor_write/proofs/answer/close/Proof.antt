@@ -19,18 +19,6 @@ keep-only-requires c κs =
     let l = lent (a .ed) (a .plens .now) (a .paths .now) (a .tlens .now) (a .trees .now) (s .pre .0 .0) in
     (laid-20 l (s .pre .0 .1), omega arith, in-hand l (s .pre .0 .1) (s .pre .1) .marks .used .0)
 
-same-length : tie.Need-same-length
-same-length c = search needs
-
-same-length-2 : tie.Need-same-length-2
-same-length-2 c = search needs
-
-same-length-3 : tie.Need-same-length-3
-same-length-3 c = search needs
-
-same-length-4 : tie.Need-same-length-4
-same-length-4 c = search needs
-
 returns : tie.Need-returns
 returns c order id h i =
     let k = c .before .before .before .before .before .before .before .before in
@@ -43,9 +31,6 @@ returns c order id h i =
     let p₃ = k .keep-only .last .1 .1 .1 .0 in
     let p₄ = k .keep-only .last .1 .1 .1 .1 .0 in
     ends-root (lent (a .ed) (a .plens .now) (a .paths .now) (a .tlens .now) (a .trees .now) order) h (s .pre .1) (s .pre .2) id i (lent (k .keep-only .result) p₁ p₂ p₃ p₄ order) (w .1 .1 .0) (w .1 .0 order (h .ordered .order-64)) (f .if1 .taken) (w .0 order)
-
-close-requires : tie.Need-close-requires
-close-requires c κs = search needs
 
 returns-2 : tie.Need-returns-2
 returns-2 c order id h i =
@@ -65,10 +50,10 @@ close-spec =
     tie.close
     (tie.spec
     keep-only-requires
-    same-length
-    same-length-2
-    same-length-3
-    same-length-4
+    (λ c. search needs)
+    (λ c. search needs)
+    (λ c. search needs)
+    (λ c. search needs)
     returns
-    close-requires
+    (λ c κs. search needs)
     returns-2)

@@ -41,12 +41,6 @@ linked x =
     x .link .ensures .0 (a .order .now) (child (store s) (s .pre .0) (s .pre .1) (s .pre .2))
     ∙ ap (λ (i : Bytes). linkedOn i (pathOf (a .plens .now) (a .paths .now) (a .ed .asked)) (goingOf 20 (a .ed) (a .plens .now) (a .paths .now) (a .tlens .now) (a .trees .now) (a .order .now))) (b .bytes .ensures)
 
-bytes-requires : tie.Need-bytes-requires
-bytes-requires c κs = search needs
-
-slice-aggregate-link : tie.Need-slice-aggregate-link
-slice-aggregate-link c = search needs
-
 link-requires : tie.Need-link-requires
 link-requires c κs =
     let b = c .before .before .before .before .before in
@@ -63,9 +57,6 @@ onward-requires c κs =
     let w = x .link .ensures in
     (w .1 .1 .0, omega arith, w .1 .0 (a .order .now) (child (store s) (s .pre .0) (s .pre .1) (s .pre .2)), linked-steady (store s) (s .pre .0) (s .pre .1) (s .pre .2) (idBytes (a .id)) (length-id (a .id)) (x .link .result) (p .0) (p .1 .0) (p .1 .1 .0) (p .1 .1 .1 .0) (linked x))
 
-ask-requires : tie.Need-ask-requires
-ask-requires c κs = search needs
-
 same-length : tie.Need-same-length
 same-length c =
     let w = c .before .before .before .before .before .before .before .before .before .before .before .before in
@@ -80,12 +71,6 @@ same-length-3 : tie.Need-same-length-3
 same-length-3 c =
     let w = c .before .before .before .before .before .before .before .before .before .before .before .before in
     w .onward .ensures .1 .1 .0 .tlens-64 ∙ sym (w .before .before .before .before .before .before .before .before .before .before .before .before .before .before .before .before .before .before .before .before .before .before .before .before .before .before .pre .0 .laid .tlens-64)
-
-same-length-4 : tie.Need-same-length-4
-same-length-4 c = search needs
-
-same-length-5 : tie.Need-same-length-5
-same-length-5 c = search needs
 
 returns : tie.Need-returns
 returns c =
@@ -106,14 +91,14 @@ pub go-on-spec : {M : Type 1} → statement M
 go-on-spec =
     tie.close
     (tie.spec
-    bytes-requires
-    slice-aggregate-link
+    (λ c κs. search needs)
+    (λ c. search needs)
     link-requires
     onward-requires
-    ask-requires
+    (λ c κs. search needs)
     same-length
     same-length-2
     same-length-3
-    same-length-4
-    same-length-5
+    (λ c. search needs)
+    (λ c. search needs)
     returns)

@@ -5,14 +5,8 @@ use borrow.Author.Needs.{needs}
 use Rattle.editor_write.proofs.begin.begin_held.Statement.{statement}
 use Rattle.editor_write.proofs.begin.begin_held.Tie as tie
 
-find-requires : tie.Need-find-requires
-find-requires c κs = search needs
-
 enum-told : tie.Need-enum-told
 enum-told c = search needs
-
-enum-known-slot : tie.Need-enum-known-slot
-enum-known-slot c = search needs
 
 begin-slot-requires : tie.Need-begin-slot-requires
 begin-slot-requires c κs =
@@ -26,33 +20,12 @@ begin-slot-requires c κs =
       slot-starts (lent (a .ed) (a .plens .now) (a .paths .now) (a .tlens .now) (a .trees .now) (a .order .now)) (s .pre .0) (s .pre .1) (a .prefix .now) (a .from) (s .pre .2) (f .find .result) (f .find .ensures) (k .slot .given .0 .0) (k .slot .given .1),
     )
 
-same-length : tie.Need-same-length
-same-length c = search needs
-
-same-length-2 : tie.Need-same-length-2
-same-length-2 c = search needs
-
 returns : tie.Need-returns
 returns c =
     let f = c .before .before in
     let s = f .before .before .before .before .before .before .before .before .before in
     let a = s .args in
     begin-stale (lent (a .ed) (a .plens .now) (a .paths .now) (a .tlens .now) (a .trees .now) (a .order .now)) (s .pre .0) (s .pre .1) (a .prefix .now) (a .from) (s .pre .2) (f .find .result) (f .find .ensures) (c .enum-told .given .1)
-
-same-length-3 : tie.Need-same-length-3
-same-length-3 c = search needs
-
-same-length-4 : tie.Need-same-length-4
-same-length-4 c = search needs
-
-same-length-5 : tie.Need-same-length-5
-same-length-5 c = search needs
-
-same-length-6 : tie.Need-same-length-6
-same-length-6 c = search needs
-
-same-length-7 : tie.Need-same-length-7
-same-length-7 c = search needs
 
 returns-2 : tie.Need-returns-2
 returns-2 c =
@@ -68,16 +41,16 @@ pub begin-held-spec : {M : Type 1} → statement M
 begin-held-spec =
     tie.close
     (tie.spec
-    find-requires
+    (λ c κs. search needs)
     enum-told
-    enum-known-slot
+    (λ c. search needs)
     begin-slot-requires
-    same-length
-    same-length-2
+    (λ c. search needs)
+    (λ c. search needs)
     returns
-    same-length-3
-    same-length-4
-    same-length-5
-    same-length-6
-    same-length-7
+    (λ c. search needs)
+    (λ c. search needs)
+    (λ c. search needs)
+    (λ c. search needs)
+    (λ c. search needs)
     returns-2)

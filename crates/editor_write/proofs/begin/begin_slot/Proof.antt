@@ -28,24 +28,6 @@ onward-requires c κs =
       first-steady (lent (a .ed) (a .plens .now) (a .paths .now) (a .tlens .now) (a .trees .now) (a .order .now)) (s .pre .0) (s .pre .1) (a .slot) (s .pre .2) (a .from) (v .stack .result) (v .stack .last .1 .0) (z .0 20 (a .plens .now) (a .paths .now) (a .tlens .now) (a .trees .now) l),
     )
 
-ask-requires : tie.Need-ask-requires
-ask-requires c κs = search needs
-
-same-length : tie.Need-same-length
-same-length c = search needs
-
-same-length-2 : tie.Need-same-length-2
-same-length-2 c = search needs
-
-same-length-3 : tie.Need-same-length-3
-same-length-3 c = search needs
-
-same-length-4 : tie.Need-same-length-4
-same-length-4 c = search needs
-
-same-length-5 : tie.Need-same-length-5
-same-length-5 c = search needs
-
 returns : tie.Need-returns
 returns c =
     let w = c .before .before .before .before .before .before .before .before .before .before .before .before in
@@ -71,10 +53,10 @@ begin-slot-spec =
     (tie.spec
     stack-requires
     onward-requires
-    ask-requires
-    same-length
-    same-length-2
-    same-length-3
-    same-length-4
-    same-length-5
+    (λ c κs. search needs)
+    (λ c. search needs)
+    (λ c. search needs)
+    (λ c. search needs)
+    (λ c. search needs)
+    (λ c. search needs)
     returns)

@@ -17,38 +17,11 @@ use Rattle.editor_write.proofs.fail.fail.Lts as lts
 use Rattle.store_check.proofs.holds.holds.Reads as holds-reads
 use Rattle.editor_write.proofs.fail.fail_held.Reads as fail-held-reads
 
-holds-requires : tie.Need-holds-requires
-holds-requires c κs = search needs
-
-same-length : tie.Need-same-length
-same-length c = search needs
-
-same-length-2 : tie.Need-same-length-2
-same-length-2 c = search needs
-
-same-length-3 : tie.Need-same-length-3
-same-length-3 c = search needs
-
-same-length-4 : tie.Need-same-length-4
-same-length-4 c = search needs
-
 returns : tie.Need-returns
 returns c =
     let h = c .before in
     let a = h .before .before .before .before .before .before .before .before .before .before .args in
     refuses-damaged failed (lent (a .ed) (a .plens .now) (a .paths .now) (a .tlens .now) (a .trees .now) (a .order .now)) (h .holds .result) (h .holds .ensures) (not-true _ (c .if1 .taken))
-
-same-length-5 : tie.Need-same-length-5
-same-length-5 c = search needs
-
-same-length-6 : tie.Need-same-length-6
-same-length-6 c = search needs
-
-same-length-7 : tie.Need-same-length-7
-same-length-7 c = search needs
-
-same-length-8 : tie.Need-same-length-8
-same-length-8 c = search needs
 
 returns-2 : tie.Need-returns-2
 returns-2 c =
@@ -147,18 +120,6 @@ fail-held-requires c κs =
     let g = h .holds .ensures .yes (not-false _ (e .if1 .left)) in
     (front-holds (lent (a .ed) (a .plens .now) (a .paths .now) (a .tlens .now) (a .trees .now) (a .order .now)) g, e₂ .if2 .left)
 
-same-length-9 : tie.Need-same-length-9
-same-length-9 c = search needs
-
-same-length-10 : tie.Need-same-length-10
-same-length-10 c = search needs
-
-same-length-11 : tie.Need-same-length-11
-same-length-11 c = search needs
-
-same-length-12 : tie.Need-same-length-12
-same-length-12 c = search needs
-
 returns-3 : tie.Need-returns-3
 returns-3 c =
     let r = c .before .before .before .before .before .before .before .before in
@@ -182,16 +143,16 @@ pub fail-spec : {M : Type 1} → statement M
 fail-spec =
     tie.close
     (tie.spec
-    holds-requires
-    same-length
-    same-length-2
-    same-length-3
-    same-length-4
+    (λ c κs. search needs)
+    (λ c. search needs)
+    (λ c. search needs)
+    (λ c. search needs)
+    (λ c. search needs)
     returns
-    same-length-5
-    same-length-6
-    same-length-7
-    same-length-8
+    (λ c. search needs)
+    (λ c. search needs)
+    (λ c. search needs)
+    (λ c. search needs)
     returns-2
     slice-relend-prefix-fail-held
     slice-aggregate-fail-held
@@ -203,8 +164,8 @@ fail-spec =
     slice-aggregate-fail-held-4
     slice-aggregate-fail-held-5
     fail-held-requires
-    same-length-9
-    same-length-10
-    same-length-11
-    same-length-12
+    (λ c. search needs)
+    (λ c. search needs)
+    (λ c. search needs)
+    (λ c. search needs)
     returns-3)

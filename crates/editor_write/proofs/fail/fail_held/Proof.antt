@@ -11,34 +11,18 @@ use Rattle.editor_write.proofs.fail.fail_held.Reads as reads
 use Rattle.editor_write.proofs.fail.fail_held.Lts as lts
 use Rattle.store_taken.proofs.close.Reads as close-reads
 use Rattle.store_taken.proofs.drop_others.Reads as drop-others-reads
-use Rattle.store_taken.proofs.start.Reads as start-reads
+use Rattle.store_slots.proofs.start.Reads as start-reads
 
 start-requires : tie.Need-start-requires
 start-requires c κs =
-    let s = c .before .before .before .before .before in
-    asked-in-hand (s .args .ed) (s .args .order .now) (s .pre .0 .ordered) (s .pre .1)
+    c .before .before .before .before .before .pre .0 .ordered .order-64
 
 drop-others-requires : tie.Need-drop-others-requires
 drop-others-requires c κs =
     let t = c .before .before .before .before in
     let s = t .before .before .before .before .before .before in
     let a = s .args in
-    (laid-20 (lent (a .ed) (a .plens .now) (a .paths .now) (a .tlens .now) (a .trees .now) (a .order .now)) (s .pre .0), omega arith, (a .order .now, a .ed .asked ∷ [], asked-in-hand (a .ed) (a .order .now) (s .pre .0 .ordered) (s .pre .1), t .start .ensures .1))
-
-close-requires : tie.Need-close-requires
-close-requires c κs = search needs
-
-same-length : tie.Need-same-length
-same-length c = search needs
-
-same-length-2 : tie.Need-same-length-2
-same-length-2 c = search needs
-
-same-length-3 : tie.Need-same-length-3
-same-length-3 c = search needs
-
-same-length-4 : tie.Need-same-length-4
-same-length-4 c = search needs
+    (laid-20 (lent (a .ed) (a .plens .now) (a .paths .now) (a .tlens .now) (a .trees .now) (a .order .now)) (s .pre .0), omega arith, (a .order .now, a .ed .asked ∷ [], asked-in-hand (a .ed) (a .order .now) (s .pre .0 .ordered) (s .pre .1), t .start .ensures .1 .0))
 
 returns : tie.Need-returns
 returns c =
@@ -65,9 +49,9 @@ fail-held-spec =
     (tie.spec
     start-requires
     drop-others-requires
-    close-requires
-    same-length
-    same-length-2
-    same-length-3
-    same-length-4
+    (λ c κs. search needs)
+    (λ c. search needs)
+    (λ c. search needs)
+    (λ c. search needs)
+    (λ c. search needs)
     returns)

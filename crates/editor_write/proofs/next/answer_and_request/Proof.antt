@@ -23,27 +23,6 @@ held w =
     let d = w .answer-accepted .ensures in
     d .done (λ z. d .refused z .0 (e .before .holds .ensures .yes (not-false _ (e .if1 .left)))) .2
 
-holds-requires : tie.Need-holds-requires
-holds-requires c κs = search needs
-
-refused-requires : tie.Need-refused-requires
-refused-requires c κs = search needs
-
-same-length : tie.Need-same-length
-same-length c = search needs
-
-same-length-2 : tie.Need-same-length-2
-same-length-2 c = search needs
-
-same-length-3 : tie.Need-same-length-3
-same-length-3 c = search needs
-
-same-length-4 : tie.Need-same-length-4
-same-length-4 c = search needs
-
-same-length-5 : tie.Need-same-length-5
-same-length-5 c = search needs
-
 returns : tie.Need-returns
 returns c =
     let e = c .before in
@@ -60,24 +39,6 @@ answer-accepted-requires c κs = let e = c .before .before .before .before .befo
 request-accepted-requires : tie.Need-request-accepted-requires
 request-accepted-requires c κs = let w = c .before .before .before .before .before .before .before .before .before .before .before .before .before .before .before .before in (left w .order, held w)
 
-same-length-6 : tie.Need-same-length-6
-same-length-6 c = search needs
-
-same-length-7 : tie.Need-same-length-7
-same-length-7 c = search needs
-
-same-length-8 : tie.Need-same-length-8
-same-length-8 c = search needs
-
-same-length-9 : tie.Need-same-length-9
-same-length-9 c = search needs
-
-same-length-10 : tie.Need-same-length-10
-same-length-10 c = search needs
-
-same-length-11 : tie.Need-same-length-11
-same-length-11 c = search needs
-
 returns-2 : tie.Need-returns-2
 returns-2 c =
     let n = c .before .before in
@@ -88,20 +49,20 @@ pub answer-and-request-spec : {M : Type 1} → statement M
 answer-and-request-spec =
     tie.close
     (tie.spec
-    holds-requires
-    refused-requires
-    same-length
-    same-length-2
-    same-length-3
-    same-length-4
-    same-length-5
+    (λ c κs. search needs)
+    (λ c κs. search needs)
+    (λ c. search needs)
+    (λ c. search needs)
+    (λ c. search needs)
+    (λ c. search needs)
+    (λ c. search needs)
     returns
     answer-accepted-requires
     request-accepted-requires
-    same-length-6
-    same-length-7
-    same-length-8
-    same-length-9
-    same-length-10
-    same-length-11
+    (λ c. search needs)
+    (λ c. search needs)
+    (λ c. search needs)
+    (λ c. search needs)
+    (λ c. search needs)
+    (λ c. search needs)
     returns-2)

@@ -11,12 +11,6 @@ use Rattle.store_check.proofs.holds.holds.Reads as holds-reads
 use Rattle.editor_write.proofs.request.refused.Reads as refused-reads
 use Rattle.editor_write.proofs.request.request_accepted.Reads as request-accepted-reads
 
-holds-requires : tie.Need-holds-requires
-holds-requires c κs = search needs
-
-refused-requires : tie.Need-refused-requires
-refused-requires c κs = search needs
-
 returns : tie.Need-returns
 returns c =
     let e = c .before in
@@ -31,9 +25,6 @@ request-accepted-requires c κs =
     let h = e .before in
     (h .before .before .before .before .before .before .before .args .order .now, h .holds .ensures .yes (not-false _ (e .if1 .left)))
 
-same-length : tie.Need-same-length
-same-length c = search needs
-
 returns-2 : tie.Need-returns-2
 returns-2 c =
     let w = c .before .before in
@@ -45,9 +36,9 @@ pub request-spec : {M : Type 1} → statement M
 request-spec =
     tie.close
     (tie.spec
-    holds-requires
-    refused-requires
+    (λ c κs. search needs)
+    (λ c κs. search needs)
     returns
     request-accepted-requires
-    same-length
+    (λ c. search needs)
     returns-2)

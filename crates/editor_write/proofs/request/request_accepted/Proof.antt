@@ -12,9 +12,6 @@ use Rattle.editor_write.proofs.request.request_accepted.Lts as lts
 use Rattle.editor_write.proofs.request.refused.Reads as refused-reads
 use Rattle.editor_write.proofs.request.request_held.Reads as request-held-reads
 
-refused-requires : tie.Need-refused-requires
-refused-requires c κs = search needs
-
 returns : tie.Need-returns
 returns c order g =
     let e = c .before in
@@ -44,9 +41,6 @@ request-held-requires c κs =
     let a = s .args in
     can-read (lent (a .ed) (a .plens .now) (a .paths .now) (a .tlens .now) (a .trees .now) (s .pre .0)) (s .pre .1) (e .if1 .left)
 
-same-length : tie.Need-same-length
-same-length c = search needs
-
 returns-2 : tie.Need-returns-2
 returns-2 c order g =
     let w = c .before .before in
@@ -60,12 +54,12 @@ pub request-accepted-spec : {M : Type 1} → statement M
 request-accepted-spec =
     tie.close
     (tie.spec
-    refused-requires
+    (λ c κs. search needs)
     returns
     slice-aggregate-request-held
     slice-aggregate-request-held-2
     slice-aggregate-request-held-3
     slice-aggregate-request-held-4
     request-held-requires
-    same-length
+    (λ c. search needs)
     returns-2)

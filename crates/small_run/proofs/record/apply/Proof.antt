@@ -27,20 +27,20 @@ slice-aggregate-front c = search needs
 front-requires : tie.Need-front-requires
 front-requires c κs = search needs
 
-slice-aggregate-edited : tie.Need-slice-aggregate-edited
-slice-aggregate-edited c = search needs
+slice-aggregate-edit : tie.Need-slice-aggregate-edit
+slice-aggregate-edit c = search needs
 
-slice-aggregate-edited-2 : tie.Need-slice-aggregate-edited-2
-slice-aggregate-edited-2 c = search needs
+slice-aggregate-edit-2 : tie.Need-slice-aggregate-edit-2
+slice-aggregate-edit-2 c = search needs
 
-slice-aggregate-edited-3 : tie.Need-slice-aggregate-edited-3
-slice-aggregate-edited-3 c = search needs
+slice-aggregate-edit-3 : tie.Need-slice-aggregate-edit-3
+slice-aggregate-edit-3 c = search needs
 
-slice-aggregate-edited-4 : tie.Need-slice-aggregate-edited-4
-slice-aggregate-edited-4 c = search needs
+slice-aggregate-edit-4 : tie.Need-slice-aggregate-edit-4
+slice-aggregate-edit-4 c = search needs
 
-edited-requires : tie.Need-edited-requires
-edited-requires c κs = search needs
+edit-requires : tie.Need-edit-requires
+edit-requires c κs = search needs
 
 same-length : tie.Need-same-length
 same-length c = search needs
@@ -62,7 +62,7 @@ returns c =
     let s = d .before .before .before .before .before .before .before .before in
     let a = s .args in
     let path = f .front .ensures ∙ decoded-front _ (now (a .digits)) (d .decode .result) _ (s .pre .1) (omega (arith, s .pre .2)) (d .decode .ensures) _ (sym (length-bytes (now (a .digits)))) in
-    did-at (λ (p : Bytes). edited sha1 noTable (asEdit (a .edit)) false [] p) _ _ path (e .edited .ensures) (s .pre .0)
+    did-at (λ (p : Bytes). edited sha1 noTable (asEdit (a .edit)) false [] p) _ _ path (e .edit .ensures) (s .pre .0)
 
 pub apply-spec : {M : Type 1} → statement M
 apply-spec =
@@ -72,11 +72,11 @@ apply-spec =
     decode-requires
     slice-aggregate-front
     front-requires
-    slice-aggregate-edited
-    slice-aggregate-edited-2
-    slice-aggregate-edited-3
-    slice-aggregate-edited-4
-    edited-requires
+    slice-aggregate-edit
+    slice-aggregate-edit-2
+    slice-aggregate-edit-3
+    slice-aggregate-edit-4
+    edit-requires
     same-length
     same-length-2
     same-length-3
