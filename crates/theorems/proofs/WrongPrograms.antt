@@ -1,4 +1,4 @@
--- Programs that do nothing of use, and that the bare words of a demand might let through: none of them meets the statements, since from stores that hold a small editor each statement computes to one answer. Assumes nothing.
+-- Programs that do nothing of use, and that the bare words of a rule might let through: none of them meets the statements, since from stores that hold a small editor each statement computes to one answer. Assumes nothing.
 use Prim.Native.Nat.{ℕ, _≤_}
 use mathlib.Core.Path.{_≡_, refl, sym, ap, ap₂, _∙_}
 use mathlib.Core.List.{List, [], _∷_, map}
