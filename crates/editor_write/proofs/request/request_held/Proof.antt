@@ -24,7 +24,7 @@ returns c E h r e l =
 returns-2 : tie.Need-returns-2
 returns-2 c E h r e l =
     let n = c .before in
-    let w = n .before .before in
+    let w = n .before .before .before in
     let f = w .before .before in
     let m = f .before in
     let s = m .before .before .before .before .before .before in
