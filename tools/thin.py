@@ -116,8 +116,8 @@ module _ {{M : Type 1}} (𝓤 : URA M) (H : Heap 𝓤) (A : Atoms 𝓤) (W : Giv
   goes = qed W ({tokens} ∷ ‵ (RecordT.the-row .own h (mach h ∷ [])) ∷ ‵ (owns ({rows}) {rargs} {rvals}) ∷ []) ∵ suffices ! _ (with-emp 𝓤 (onEntry 𝓤 H A callee.signature {k1} {q1} {cargs} {cvals})) $ frame ! $ fjoin ! $ done !
 
   module _ (C : Calls 𝓤 H) (Λ : Loops 𝓤 H) (fm : FmC 𝓤 H (W .laws) C) (known : Triple 𝓤 (C {called}) (Callee 𝓤 H A at-mem run)) {are} where
-    walk : ent 𝓤 (onEntry 𝓤 H A self.signature {k0} {q0} {args} {vals}) (WpFn 𝓤 H C Λ code.function ({flat}) Post)
-    walk =
+    walk· : ent 𝓤 (onEntry 𝓤 H A self.signature {k0} {q0} {args} {vals}) (WpFn 𝓤 H C Λ code.function ({flat}) Post)
+    walk· =
         qed W ((‵ (flft κ q) ⊛ {tokens}) ∷ ‵ (owns (MutRef (named 0) κ RecordT.the-row ∷ {rows}) {args} {vals}) ∷ []) ∵ enter ! C Λ code.function ({flat}) _ $
         {allocs} alloc0 ! $ params1 ! $ pass1 ! (init ! {at_ed} refl (tt, tt)) $ {passes} pass0 ! $
         -- the record's borrow is opened
@@ -148,7 +148,7 @@ module _ {{M : Type 1}} (𝓤 : URA M) (H : Heap 𝓤) (A : Atoms 𝓤) (W : Giv
   self-walks : (C : Calls 𝓤 H) (Λ : Loops 𝓤 H) → FmC 𝓤 H (W .laws) C → Triple 𝓤 (C {called}) (Callee 𝓤 H A at-mem run) → Walks 𝓤 H A self.ended stayed (WpFn 𝓤 H C Λ code.function) (self.clauses 𝓤 H A at-mem run)
   self-walks C Λ fm known = walked 𝓤 H A self.ended stayed (self.clauses 𝓤 H A at-mem run) (WpFn 𝓤 H C Λ code.function)
       (λ κs. {vals_of}) (λ κs. {tells_of})
-      (λ κs qs bounds a g are. via 𝓤 _ (fst∗ 𝓤 _ (emp 𝓤)) (walk 𝓤 H A W at-mem run {walk_args} bounds tt C Λ fm known {walk_are}))
+      (λ κs qs bounds a g are. via 𝓤 _ (fst∗ 𝓤 _ (emp 𝓤)) (walk· 𝓤 H A W at-mem run {walk_args} bounds tt C Λ fm known {walk_are}))
 
 self-meets : {{M : Type 1}} (𝓤 : URA M) (H : Heap 𝓤) (A : Atoms 𝓤) → Given 𝓤 H A → (at-mem : Memory → SProp 𝓤) (run : Routine → Fun 𝓤) (𝓣 : Tables 𝓤 H) → Triple 𝓤 (𝓣 .C {called}) (Callee 𝓤 H A at-mem run)
     → Meets 𝓤 H A self.signature (WpFn 𝓤 H (𝓣 .C) (𝓣 .Λ) code.function) (self.spec 𝓤 H A at-mem run)
@@ -248,7 +248,7 @@ def proof(module, source, found):
         lends.append(f"        assigns ! (addr ! (from ! (fld ! refl (hop ! (look-in ! {own} (sub ! 0 refl (whole !))) (stop !))))) (from ! (stop !)) (init ! {a} refl (tt, tt)) $")
         lends.append(f"        assigns ! (agg ! (and-then ! (load ! (from ! (stop !)) (look ! {a} refl)) (and-then ! (load ! (from ! (fld ! refl (stop !))) (look-in ! {own} (sub ! 1 refl (whole !)))) (no-more !)))) (from ! (stop !)) (init ! {s} refl {p.typed()}) $")
     body = BODY.format(
-        dashed=fn.replace("_", "-"), called=f"#adapter_numbers·{of}·{callee.replace('_', '-')}", called_name=f"adapter_numbers·{of}·{callee.replace('_', '-')}",
+        dashed=fn.replace("_", "-"), called=f"#adapter_numbers·{of}·{callee.replace('_', '-')}", called_name=f"adapter-numbers·{of}·{callee.replace('_', '-')}",
         last_type=right(["Unit {0}"] + ["List ℕ" if p.kind == "mut" else "Unit {0}" for p in params], "Unit {0}", "({} × {})"),
         klist=" ".join(["κ"] + ks), qlist=" ".join(["q"] + qs), binders=" ".join(p.binder() for p in params),
         k0=right(["κ"] + ks, "tt"), q0=right(["q"] + qs, "tt"), k1=right(ks, "tt"), q1=right(qs, "tt"), fact=clause(ensures, params),

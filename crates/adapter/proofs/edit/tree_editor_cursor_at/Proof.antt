@@ -90,8 +90,8 @@ module _ {M : Type 1} (𝓤 : URA M) (H : Heap 𝓤) (A : Atoms 𝓤) (W : Given
   goes = qed W ((‵ (flft κ1 q1) ⊛ ‵ (flft κ2 q2) ⊛ ‵ (flft κ3 q3) ⊛ ‵ (flft κ4 q4) ⊛ ‵ (flft κ5 q5) ⊛ ‵ (flft κ6 q6) ⊛ ‵ (flft κ7 q7) ⊛ ‵ (flft κ8 q8) ⊛ ‵ (flft κ9 q9) ⊛ ‵ ftrue) ∷ ‵ (RecordT.the-row .own h (mach h ∷ [])) ∷ ‵ (owns ((MutSlice (named 1) κ1 u64) ∷ (MutSlice (named 2) κ2 u8) ∷ (MutSlice (named 3) κ3 u64) ∷ (MutSlice (named 4) κ4 u8) ∷ (ShrSlice (named 5) κ5 u64) ∷ (ShrSlice (named 6) κ6 u8) ∷ (ShrSlice (named 7) κ7 u32) ∷ (ShrSlice (named 8) κ8 u8) ∷ (ShrSlice (named 9) κ9 u8) ∷ []) (plens·, (paths·, (tlens·, (trees·, (order·, (ids·, (ends·, (raws·, (path·, tt))))))))) (sliceVal (ptr plens·) (length (now plens·)) ∷ [], (sliceVal (ptr paths·) (length (now paths·)) ∷ [], (sliceVal (ptr tlens·) (length (now tlens·)) ∷ [], (sliceVal (ptr trees·) (length (now trees·)) ∷ [], (sliceVal (ptr order·) (length (now order·)) ∷ [], (sliceVal (ptr ids·) (length (now ids·)) ∷ [], (sliceVal (ptr ends·) (length (now ends·)) ∷ [], (sliceVal (ptr raws·) (length (now raws·)) ∷ [], (sliceVal (ptr path·) (length (now path·)) ∷ [], tt)))))))))) ∷ []) ∵ suffices ! _ (with-emp 𝓤 (onEntry 𝓤 H A callee.signature (κ1, (κ2, (κ3, (κ4, (κ5, (κ6, (κ7, (κ8, (κ9, tt))))))))) (q1, (q2, (q3, (q4, (q5, (q6, (q7, (q8, (q9, tt))))))))) (h, (plens·, (paths·, (tlens·, (trees·, (order·, (ids·, (ends·, (raws·, (path·, tt)))))))))) (mach h ∷ [], (sliceVal (ptr plens·) (length (now plens·)) ∷ [], (sliceVal (ptr paths·) (length (now paths·)) ∷ [], (sliceVal (ptr tlens·) (length (now tlens·)) ∷ [], (sliceVal (ptr trees·) (length (now trees·)) ∷ [], (sliceVal (ptr order·) (length (now order·)) ∷ [], (sliceVal (ptr ids·) (length (now ids·)) ∷ [], (sliceVal (ptr ends·) (length (now ends·)) ∷ [], (sliceVal (ptr raws·) (length (now raws·)) ∷ [], (sliceVal (ptr path·) (length (now path·)) ∷ [], tt)))))))))))) $ frame ! $ fjoin ! $ done !
 
   module _ (C : Calls 𝓤 H) (Λ : Loops 𝓤 H) (fm : FmC 𝓤 H (W .laws) C) (known : Triple 𝓤 (C #adapter_numbers·edit·cursor-at) (Callee 𝓤 H A at-mem run)) (are0 : Is (MutSlice (named 1) κ1 u64) plens· (sliceVal (ptr plens·) (length (now plens·)) ∷ [])) (are1 : Is (MutSlice (named 2) κ2 u8) paths· (sliceVal (ptr paths·) (length (now paths·)) ∷ [])) (are2 : Is (MutSlice (named 3) κ3 u64) tlens· (sliceVal (ptr tlens·) (length (now tlens·)) ∷ [])) (are3 : Is (MutSlice (named 4) κ4 u8) trees· (sliceVal (ptr trees·) (length (now trees·)) ∷ [])) (are4 : Is (ShrSlice (named 5) κ5 u64) order· (sliceVal (ptr order·) (length (now order·)) ∷ [])) (are5 : Is (ShrSlice (named 6) κ6 u8) ids· (sliceVal (ptr ids·) (length (now ids·)) ∷ [])) (are6 : Is (ShrSlice (named 7) κ7 u32) ends· (sliceVal (ptr ends·) (length (now ends·)) ∷ [])) (are7 : Is (ShrSlice (named 8) κ8 u8) raws· (sliceVal (ptr raws·) (length (now raws·)) ∷ [])) (are8 : Is (ShrSlice (named 9) κ9 u8) path· (sliceVal (ptr path·) (length (now path·)) ∷ [])) where
-    walk : ent 𝓤 (onEntry 𝓤 H A self.signature (κ, (κ1, (κ2, (κ3, (κ4, (κ5, (κ6, (κ7, (κ8, (κ9, tt)))))))))) (q, (q1, (q2, (q3, (q4, (q5, (q6, (q7, (q8, (q9, tt)))))))))) (x, (plens·, (paths·, (tlens·, (trees·, (order·, (ids·, (ends·, (raws·, (path·, tt)))))))))) (vptr b o ∷ [], (sliceVal (ptr plens·) (length (now plens·)) ∷ [], (sliceVal (ptr paths·) (length (now paths·)) ∷ [], (sliceVal (ptr tlens·) (length (now tlens·)) ∷ [], (sliceVal (ptr trees·) (length (now trees·)) ∷ [], (sliceVal (ptr order·) (length (now order·)) ∷ [], (sliceVal (ptr ids·) (length (now ids·)) ∷ [], (sliceVal (ptr ends·) (length (now ends·)) ∷ [], (sliceVal (ptr raws·) (length (now raws·)) ∷ [], (sliceVal (ptr path·) (length (now path·)) ∷ [], tt))))))))))) (WpFn 𝓤 H C Λ code.function (vptr b o ∷ sliceVal (ptr plens·) (length (now plens·)) ∷ sliceVal (ptr paths·) (length (now paths·)) ∷ sliceVal (ptr tlens·) (length (now tlens·)) ∷ sliceVal (ptr trees·) (length (now trees·)) ∷ sliceVal (ptr order·) (length (now order·)) ∷ sliceVal (ptr ids·) (length (now ids·)) ∷ sliceVal (ptr ends·) (length (now ends·)) ∷ sliceVal (ptr raws·) (length (now raws·)) ∷ sliceVal (ptr path·) (length (now path·)) ∷ []) Post)
-    walk =
+    walk· : ent 𝓤 (onEntry 𝓤 H A self.signature (κ, (κ1, (κ2, (κ3, (κ4, (κ5, (κ6, (κ7, (κ8, (κ9, tt)))))))))) (q, (q1, (q2, (q3, (q4, (q5, (q6, (q7, (q8, (q9, tt)))))))))) (x, (plens·, (paths·, (tlens·, (trees·, (order·, (ids·, (ends·, (raws·, (path·, tt)))))))))) (vptr b o ∷ [], (sliceVal (ptr plens·) (length (now plens·)) ∷ [], (sliceVal (ptr paths·) (length (now paths·)) ∷ [], (sliceVal (ptr tlens·) (length (now tlens·)) ∷ [], (sliceVal (ptr trees·) (length (now trees·)) ∷ [], (sliceVal (ptr order·) (length (now order·)) ∷ [], (sliceVal (ptr ids·) (length (now ids·)) ∷ [], (sliceVal (ptr ends·) (length (now ends·)) ∷ [], (sliceVal (ptr raws·) (length (now raws·)) ∷ [], (sliceVal (ptr path·) (length (now path·)) ∷ [], tt))))))))))) (WpFn 𝓤 H C Λ code.function (vptr b o ∷ sliceVal (ptr plens·) (length (now plens·)) ∷ sliceVal (ptr paths·) (length (now paths·)) ∷ sliceVal (ptr tlens·) (length (now tlens·)) ∷ sliceVal (ptr trees·) (length (now trees·)) ∷ sliceVal (ptr order·) (length (now order·)) ∷ sliceVal (ptr ids·) (length (now ids·)) ∷ sliceVal (ptr ends·) (length (now ends·)) ∷ sliceVal (ptr raws·) (length (now raws·)) ∷ sliceVal (ptr path·) (length (now path·)) ∷ []) Post)
+    walk· =
         qed W ((‵ (flft κ q) ⊛ (‵ (flft κ1 q1) ⊛ ‵ (flft κ2 q2) ⊛ ‵ (flft κ3 q3) ⊛ ‵ (flft κ4 q4) ⊛ ‵ (flft κ5 q5) ⊛ ‵ (flft κ6 q6) ⊛ ‵ (flft κ7 q7) ⊛ ‵ (flft κ8 q8) ⊛ ‵ (flft κ9 q9) ⊛ ‵ ftrue)) ∷ ‵ (owns (MutRef (named 0) κ RecordT.the-row ∷ (MutSlice (named 1) κ1 u64) ∷ (MutSlice (named 2) κ2 u8) ∷ (MutSlice (named 3) κ3 u64) ∷ (MutSlice (named 4) κ4 u8) ∷ (ShrSlice (named 5) κ5 u64) ∷ (ShrSlice (named 6) κ6 u8) ∷ (ShrSlice (named 7) κ7 u32) ∷ (ShrSlice (named 8) κ8 u8) ∷ (ShrSlice (named 9) κ9 u8) ∷ []) (x, (plens·, (paths·, (tlens·, (trees·, (order·, (ids·, (ends·, (raws·, (path·, tt)))))))))) (vptr b o ∷ [], (sliceVal (ptr plens·) (length (now plens·)) ∷ [], (sliceVal (ptr paths·) (length (now paths·)) ∷ [], (sliceVal (ptr tlens·) (length (now tlens·)) ∷ [], (sliceVal (ptr trees·) (length (now trees·)) ∷ [], (sliceVal (ptr order·) (length (now order·)) ∷ [], (sliceVal (ptr ids·) (length (now ids·)) ∷ [], (sliceVal (ptr ends·) (length (now ends·)) ∷ [], (sliceVal (ptr raws·) (length (now raws·)) ∷ [], (sliceVal (ptr path·) (length (now path·)) ∷ [], tt))))))))))) ∷ []) ∵ enter ! C Λ code.function (vptr b o ∷ sliceVal (ptr plens·) (length (now plens·)) ∷ sliceVal (ptr paths·) (length (now paths·)) ∷ sliceVal (ptr tlens·) (length (now tlens·)) ∷ sliceVal (ptr trees·) (length (now trees·)) ∷ sliceVal (ptr order·) (length (now order·)) ∷ sliceVal (ptr ids·) (length (now ids·)) ∷ sliceVal (ptr ends·) (length (now ends·)) ∷ sliceVal (ptr raws·) (length (now raws·)) ∷ sliceVal (ptr path·) (length (now path·)) ∷ []) _ $
         alloc1 ! (λ l0. alloc1 ! (λ l1. alloc1 ! (λ l2. alloc1 ! (λ l3. alloc1 ! (λ l4. alloc1 ! (λ l5. alloc1 ! (λ l6. alloc1 ! (λ l7. alloc1 ! (λ l8. alloc1 ! (λ l9. alloc1 ! (λ l10. alloc1 ! (λ l11. alloc1 ! (λ l12. alloc1 ! (λ l13. alloc1 ! (λ l14. alloc1 ! (λ l15. alloc1 ! (λ l16. alloc1 ! (λ l17. alloc1 ! (λ l18. alloc1 ! (λ l19. alloc1 ! (λ l20. alloc0 ! $ params1 ! $ pass1 ! (init ! 38 refl (tt, tt)) $ pass1 ! (init ! 36 refl (tt, (tt, (record { fits = are0 .0 .1 .0 }, tt)))) $ pass1 ! (init ! 34 refl (tt, (tt, (record { fits = are1 .0 .1 .0 }, tt)))) $ pass1 ! (init ! 32 refl (tt, (tt, (record { fits = are2 .0 .1 .0 }, tt)))) $ pass1 ! (init ! 30 refl (tt, (tt, (record { fits = are3 .0 .1 .0 }, tt)))) $ pass1 ! (init ! 28 refl (tt, (tt, (record { fits = are4 .0 .1 .0 }, tt)))) $ pass1 ! (init ! 26 refl (tt, (tt, (record { fits = are5 .0 .1 .0 }, tt)))) $ pass1 ! (init ! 24 refl (tt, (tt, (record { fits = are6 .0 .1 .0 }, tt)))) $ pass1 ! (init ! 22 refl (tt, (tt, (record { fits = are7 .0 .1 .0 }, tt)))) $ pass1 ! (init ! 20 refl (tt, (tt, (record { fits = are8 .0 .1 .0 }, tt)))) $ pass0 ! $
         -- the record's borrow is opened
@@ -129,7 +129,7 @@ module _ {M : Type 1} (𝓤 : URA M) (H : Heap 𝓤) (A : Atoms 𝓤) (W : Given
   self-walks : (C : Calls 𝓤 H) (Λ : Loops 𝓤 H) → FmC 𝓤 H (W .laws) C → Triple 𝓤 (C #adapter_numbers·edit·cursor-at) (Callee 𝓤 H A at-mem run) → Walks 𝓤 H A self.ended stayed (WpFn 𝓤 H C Λ code.function) (self.clauses 𝓤 H A at-mem run)
   self-walks C Λ fm known = walked 𝓤 H A self.ended stayed (self.clauses 𝓤 H A at-mem run) (WpFn 𝓤 H C Λ code.function)
       (λ κs. (ptr-vals, (slice-vals, (slice-vals, (slice-vals, (slice-vals, (slice-vals, (slice-vals, (slice-vals, (slice-vals, (slice-vals, tt))))))))))) (λ κs. (mut-tells (named 0) (κs .0) RecordT.the-row, (mut-slice-tells (named 1) (κs .1 .0) u64, (mut-slice-tells (named 2) (κs .1 .1 .0) u8, (mut-slice-tells (named 3) (κs .1 .1 .1 .0) u64, (mut-slice-tells (named 4) (κs .1 .1 .1 .1 .0) u8, (shr-slice-tells (named 5) (κs .1 .1 .1 .1 .1 .0) u64, (shr-slice-tells (named 6) (κs .1 .1 .1 .1 .1 .1 .0) u8, (shr-slice-tells (named 7) (κs .1 .1 .1 .1 .1 .1 .1 .0) u32, (shr-slice-tells (named 8) (κs .1 .1 .1 .1 .1 .1 .1 .1 .0) u8, (shr-slice-tells (named 9) (κs .1 .1 .1 .1 .1 .1 .1 .1 .1 .0) u8, tt)))))))))))
-      (λ κs qs bounds a g are. via 𝓤 _ (fst∗ 𝓤 _ (emp 𝓤)) (walk 𝓤 H A W at-mem run (κs .0) (κs .1 .0) (κs .1 .1 .0) (κs .1 .1 .1 .0) (κs .1 .1 .1 .1 .0) (κs .1 .1 .1 .1 .1 .0) (κs .1 .1 .1 .1 .1 .1 .0) (κs .1 .1 .1 .1 .1 .1 .1 .0) (κs .1 .1 .1 .1 .1 .1 .1 .1 .0) (κs .1 .1 .1 .1 .1 .1 .1 .1 .1 .0) (qs .0) (qs .1 .0) (qs .1 .1 .0) (qs .1 .1 .1 .0) (qs .1 .1 .1 .1 .0) (qs .1 .1 .1 .1 .1 .0) (qs .1 .1 .1 .1 .1 .1 .0) (qs .1 .1 .1 .1 .1 .1 .1 .0) (qs .1 .1 .1 .1 .1 .1 .1 .1 .0) (qs .1 .1 .1 .1 .1 .1 .1 .1 .1 .0) (a .0 .ptr .0) (a .0 .ptr .1) (a .0 .name) (a .0 .now) (a .1 .0) (a .1 .1 .0) (a .1 .1 .1 .0) (a .1 .1 .1 .1 .0) (a .1 .1 .1 .1 .1 .0) (a .1 .1 .1 .1 .1 .1 .0) (a .1 .1 .1 .1 .1 .1 .1 .0) (a .1 .1 .1 .1 .1 .1 .1 .1 .0) (a .1 .1 .1 .1 .1 .1 .1 .1 .1 .0) bounds tt C Λ fm known (are .1 .0) (are .1 .1 .0) (are .1 .1 .1 .0) (are .1 .1 .1 .1 .0) (are .1 .1 .1 .1 .1 .0) (are .1 .1 .1 .1 .1 .1 .0) (are .1 .1 .1 .1 .1 .1 .1 .0) (are .1 .1 .1 .1 .1 .1 .1 .1 .0) (are .1 .1 .1 .1 .1 .1 .1 .1 .1 .0)))
+      (λ κs qs bounds a g are. via 𝓤 _ (fst∗ 𝓤 _ (emp 𝓤)) (walk· 𝓤 H A W at-mem run (κs .0) (κs .1 .0) (κs .1 .1 .0) (κs .1 .1 .1 .0) (κs .1 .1 .1 .1 .0) (κs .1 .1 .1 .1 .1 .0) (κs .1 .1 .1 .1 .1 .1 .0) (κs .1 .1 .1 .1 .1 .1 .1 .0) (κs .1 .1 .1 .1 .1 .1 .1 .1 .0) (κs .1 .1 .1 .1 .1 .1 .1 .1 .1 .0) (qs .0) (qs .1 .0) (qs .1 .1 .0) (qs .1 .1 .1 .0) (qs .1 .1 .1 .1 .0) (qs .1 .1 .1 .1 .1 .0) (qs .1 .1 .1 .1 .1 .1 .0) (qs .1 .1 .1 .1 .1 .1 .1 .0) (qs .1 .1 .1 .1 .1 .1 .1 .1 .0) (qs .1 .1 .1 .1 .1 .1 .1 .1 .1 .0) (a .0 .ptr .0) (a .0 .ptr .1) (a .0 .name) (a .0 .now) (a .1 .0) (a .1 .1 .0) (a .1 .1 .1 .0) (a .1 .1 .1 .1 .0) (a .1 .1 .1 .1 .1 .0) (a .1 .1 .1 .1 .1 .1 .0) (a .1 .1 .1 .1 .1 .1 .1 .0) (a .1 .1 .1 .1 .1 .1 .1 .1 .0) (a .1 .1 .1 .1 .1 .1 .1 .1 .1 .0) bounds tt C Λ fm known (are .1 .0) (are .1 .1 .0) (are .1 .1 .1 .0) (are .1 .1 .1 .1 .0) (are .1 .1 .1 .1 .1 .0) (are .1 .1 .1 .1 .1 .1 .0) (are .1 .1 .1 .1 .1 .1 .1 .0) (are .1 .1 .1 .1 .1 .1 .1 .1 .0) (are .1 .1 .1 .1 .1 .1 .1 .1 .1 .0)))
 
 self-meets : {M : Type 1} (𝓤 : URA M) (H : Heap 𝓤) (A : Atoms 𝓤) → Given 𝓤 H A → (at-mem : Memory → SProp 𝓤) (run : Routine → Fun 𝓤) (𝓣 : Tables 𝓤 H) → Triple 𝓤 (𝓣 .C #adapter_numbers·edit·cursor-at) (Callee 𝓤 H A at-mem run)
     → Meets 𝓤 H A self.signature (WpFn 𝓤 H (𝓣 .C) (𝓣 .Λ) code.function) (self.spec 𝓤 H A at-mem run)
@@ -143,4 +143,4 @@ tree-editor-cursor-at-spec 𝓤 H 𝓜 𝓖 𝓡 =
     entered 𝓤 H (tripleOf 𝓤 H (𝓖 .A) self.signature (self.spec 𝓤 H (𝓖 .A) (𝓜 .mem) (𝓡 .run)))
     (tables 𝓤 H 𝓜 𝓡 code.env .C) (tables 𝓤 H 𝓜 𝓡 code.env .Λ) #adapter·tree-editor-cursor-at code.function (code.unfolded 𝓤 H 𝓜 𝓡)
     (self-meets 𝓤 H (𝓖 .A) (givenOf 𝓤 H 𝓜 𝓖) (𝓜 .mem) (𝓡 .run) (tablesOf 𝓤 H 𝓜 (tables 𝓤 H 𝓜 𝓡 code.env))
-    (cited 𝓤 H (Callee 𝓤 H (𝓖 .A) (𝓜 .mem) (𝓡 .run)) 𝓜 𝓡 code.env #adapter_numbers·edit·cursor-at callee-def.routine code.calls-adapter_numbers·edit·cursor-at (callee-thm.met 𝓤 H 𝓜 𝓖 𝓡)))
+    (cited 𝓤 H (Callee 𝓤 H (𝓖 .A) (𝓜 .mem) (𝓡 .run)) 𝓜 𝓡 code.env #adapter_numbers·edit·cursor-at callee-def.routine code.calls-adapter-numbers·edit·cursor-at (callee-thm.met 𝓤 H 𝓜 𝓖 𝓡)))
