@@ -16,6 +16,6 @@ valgrind --tool=callgrind --callgrind-out-file=$work/callgrind.out $bench count 
 callgrind_annotate --inclusive=yes --threshold=100 --show-percs=no $work/callgrind.out > $work/count
 nm -u "$TREE_EDITOR_LIB" | awk 'NF == 2 && $1 == "U" && !/tree_editor_/ { print $2 }' | sort -u > $work/needs
 size "$TREE_EDITOR_LIB" | awk 'NR > 1 { n += $1 } END { print n }' > $work/code
-FUZZ_FLAGS=-DMEASURE_STACK=1 fuzz/run.sh 1 20000 > $work/fuzz.log
+FUZZ_FLAGS=-DMEASURE_STACK=1 tests/fuzz/run.sh 1 20000 > $work/fuzz.log
 grep '^stack ' target/fuzz/counts > $work/stack
 python3 bench/report.py $work

@@ -1,27 +1,15 @@
-// Makes a store and does one piece of work on it: store.sh counts its instructions.
+// Makes a store and makes one call on it: store.sh counts its instructions.
+#include "tree_editor.h"
+
 #include <stdbool.h>
-#include <stdint.h>
 #include <stdio.h>
 #include <stdlib.h>
 #include <string.h>
 
-enum { SLOTS = 64, PATHS = 8192, ID = 20, NAME = 16, ENTRY = 2 + ID + NAME, TREES = 1024 * (2 + ID) + 16384 };
+enum { NAME = 16, ENTRY = 2 + TREE_EDITOR_ID + NAME };
 
-typedef struct {
-    uint64_t free, hidden;
-    size_t paths, trees, entries, names;
-    uint64_t open;
-    size_t aside, stacked, asked;
-} Record;
-
-bool store_holds(Record r, const uint64_t *plens, size_t np, const uint8_t *paths, size_t n, const uint64_t *tlens, size_t nt,
-                 const uint8_t *trees, size_t m, const uint64_t *order, size_t no);
-size_t store_insert(Record r, const uint64_t *plens, size_t np, const uint8_t *paths, size_t n, uint64_t *tlens, size_t nt,
-                    uint8_t *trees, size_t m, size_t slot, const uint8_t *id, size_t w, const uint8_t *name, size_t len);
-
-static uint64_t plens[SLOTS], tlens[SLOTS], order[SLOTS];
-static uint8_t paths[PATHS], trees[TREES];
-static Record r;
+static tree_editor_store s;
+static tree_editor ed;
 
 // The name with the number n: twelve of its sixteen bytes are the same in all.
 static void put_name(uint8_t *to, int n) {
@@ -35,27 +23,25 @@ static void add_tree(int slot, int a, int b) {
     if (slot > 0) {
         char path[4];
         snprintf(path, sizeof path, "d%02d", slot);
-        memcpy(paths + r.paths, path, 3);
-        plens[slot] = 3;
-        r.paths += 3;
+        memcpy(s.paths + ed.paths, path, 3);
+        s.plens[slot] = 3;
+        ed.paths += 3;
     }
     for (int n = a; n < b; n++) {
-        uint8_t *e = trees + r.trees;
+        uint8_t *e = s.trees + ed.trees;
         e[0] = 1;
         e[1] = NAME;
-        memset(e + 2, 17, ID);
-        put_name(e + 2 + ID, n);
-        r.trees += ENTRY;
-        r.entries += 1;
-        r.names += NAME;
+        memset(e + 2, 17, TREE_EDITOR_ID);
+        put_name(e + 2 + TREE_EDITOR_ID, n);
+        ed.trees += ENTRY;
+        ed.entries += 1;
+        ed.names += NAME;
     }
-    tlens[slot] = (uint64_t)(b - a) * ENTRY;
-    r.free &= ~(1ull << slot);
+    s.tlens[slot] = (uint64_t)(b - a) * ENTRY;
+    ed.free &= ~(1ull << slot);
 }
 
-static bool holds(void) {
-    return store_holds(r, plens, SLOTS, paths, PATHS, tlens, SLOTS, trees, TREES, order, SLOTS);
-}
+static bool holds(void) { return tree_editor_holds(ed, TREE_EDITOR_LENT(&s)) == 1; }
 
 static void need(bool b, const char *what) {
     if (!b) {
@@ -64,28 +50,27 @@ static void need(bool b, const char *what) {
     }
 }
 
+// `full`, `one`: the check of a full store, 64 trees or one. `insert`, `insert-one`: an upsert that fills it, at the front of its first tree, after
+// the same store without that entry was checked.
 int main(int argc, char **argv) {
-    const char *what = argc > 1 ? argv[1] : "";
+    if (argc < 2) return 2;
+    const char *what = argv[1];
     bool one = !strcmp(what, "one") || !strcmp(what, "insert-one"), insert = !strncmp(what, "insert", 6);
-    r.free = ~0ull;
+    ed.free = ~0ull;
     add_tree(0, 1, one ? 1025 - insert : 17 - insert);
-    for (int k = 1; !one && k < SLOTS; k++)
-        add_tree(k, 1, 17);
-    r.hidden = r.free;
-    need(r.entries == 1024 - insert, "the store is not full");
-    if (!insert) {
-        need(holds(), "the store does not hold an editor");
-        return 0;
-    }
-    uint8_t id[ID], name[NAME];
-    memset(id, 9, ID);
+    for (int k = 1; !one && k < TREE_EDITOR_SLOTS; k++) add_tree(k, 1, 17);
+    ed.hidden = ed.free;
+    need(ed.entries == (uint64_t)(1024 - insert), "the store is not full");
+    need(holds(), "the store does not hold an editor");
+    if (!insert) return 0;
+    uint8_t id[TREE_EDITOR_ID], name[NAME];
+    uint64_t trees = ed.trees;
+    memset(id, 9, sizeof id);
     put_name(name, 0);
-    size_t used = store_insert(r, plens, SLOTS, paths, PATHS, tlens, SLOTS, trees, TREES, 0, id, ID, name, NAME);
-    need(used == r.trees + ENTRY && !memcmp(trees + 2 + ID, name, NAME), "the entry is not at the front");
-    r.trees = used;
-    r.entries += 1;
-    r.names += NAME;
-    if (argc > 2)
-        need(holds(), "the store does not hold an editor after the insertion");
+    need(tree_editor_upsert(&ed, TREE_EDITOR_LENT(&s), TREE_EDITOR_NO_TABLE, TREE_EDITOR_ROOT, name, NAME, id, sizeof id, TREE_EDITOR_BLOB) ==
+             TREE_EDITOR_DONE,
+         "the upsert is refused");
+    need(ed.trees == trees + ENTRY && !memcmp(s.trees + 2 + TREE_EDITOR_ID, name, NAME), "the entry is not at the front");
+    if (argc > 2) need(holds(), "the store does not hold an editor after the insertion");
     return 0;
 }

@@ -6,9 +6,32 @@
  * TREE_EDITOR_STORE_DAMAGED. No call asks anything of what record and arrays hold. No array that a call may change overlaps another
  * that is lent to it, or the record. An array of no elements may have any pointer.
  *
- * Every function but tree_editor_holds gives a number that says what it did; crates/adapter proves what each does.
+ * Every function but tree_editor_holds gives a number that says what it did; crates/adapter proves what each does, and docs/RULES.md says it
+ * in words.
  *
- * Names and paths are bytes: compared as unsigned bytes, counted as bytes, never taken for text. */
+ * Names and paths are bytes: compared as unsigned bytes, counted as bytes, never taken for text.
+ *
+ * Lengths are uint64_t on every machine, not size_t: the proofs speak of 64-bit lengths, and with these they hold on a 32-bit core too, where
+ * a size_t is shorter.
+ *
+ * What surprises a caller
+ *
+ * - tree_editor_new starts over: it asks nothing of record and arrays, and forgets an editor that they hold, even one with an open write.
+ * - 13 does not only mean damage: it is also the answer where an array is too short, and where no editor has been made yet.
+ * - A path of no bytes names nothing: an edit with it does nothing and gives 0, a lookup finds nothing, and a cursor opened there stands at the
+ *   root.
+ * - A slash at the end is an empty component: an upsert of `a/` gives 1, and the tree `a` that it made or loaded on its way stays, as after every
+ *   number from 1 to 4.
+ * - Opening a cursor is an edit. Where no tree is cached at its path, the folder starts empty there and its id is forgotten, even if the
+ *   table lists it: the write then leaves out what the folder held. To keep that, make an edit below the folder first, which loads it.
+ * - A lookup sees cached trees only: what lies in a folder that no edit has gone into yet is not found. It gives a folder's old id, whatever
+ *   was changed below it (the null id for a new one), until the write answers for the folder.
+ * - Entries with the null id vanish when their tree is written, and so do trees that have no entry left; only the tree that the write starts
+ *   from is requested even when it is empty. An upsert with the null id thus lasts until the write.
+ * - A removed folder's tree stays cached: a later upsert below its path brings back what it held.
+ * - After a write from the root only the root is cached. The next edit below a folder looks up the id that was answered for it, so the trees
+ *   that were just written have to be in the table, or it gives 2 (examples/c/again.c). After a write from a cursor its tree stays cached, and so
+ *   does what the write did not visit. */
 #ifndef TREE_EDITOR_H
 #define TREE_EDITOR_H
 
@@ -43,10 +66,11 @@ enum {
     TREE_EDITOR_NO_WRITE_OPEN = 10,  /* a write's own call, and none is open */
     TREE_EDITOR_OUTPUT_SHORT = 11,   /* the output is too short; the length needed is given */
     TREE_EDITOR_BAD_ROOT = 12,       /* the new root isn't a well-formed raw tree */
-    TREE_EDITOR_STORE_DAMAGED = 13,  /* record and arrays hold no editor */
-    TREE_EDITOR_BAD_ARGUMENT = 14    /* for C alone: a mode that is none of the five, an id that isn't 20 bytes, or, for a request, fewer than
-                                        two lengths, fewer than TREE_EDITOR_PATH bytes of path or no place for a second number; nothing
-                                        else was looked at, and nothing at all has changed */
+    TREE_EDITOR_STORE_DAMAGED = 13,  /* record and arrays hold no editor, or an array is too short */
+    TREE_EDITOR_BAD_ARGUMENT = 255   /* for C alone: a mode that is none of the five; an id that isn't 20 bytes, or, for a lookup, fewer than 20
+                                        bytes of place for one; for a request, fewer than two lengths, fewer than TREE_EDITOR_PATH bytes of
+                                        path or no place for a second number. It comes first: nothing else was looked at, and nothing at all
+                                        has changed */
 };
 
 /* The modes of entries. */
@@ -60,10 +84,7 @@ enum {
 
 /* The record of an editor. Its fields are the editor's own (docs/STORE.md). */
 typedef struct tree_editor {
-    uint64_t free, hidden;
-    size_t paths, trees, entries, names;
-    uint64_t open;
-    size_t aside, stacked, asked;
+    uint64_t free, hidden, paths, trees, entries, names, open, aside, stacked, asked;
 } tree_editor;
 
 /* The arrays of an editor, for a caller that keeps them together; TREE_EDITOR_LENT(s) lends them to a call. */
@@ -77,16 +98,20 @@ typedef struct tree_editor_store {
         (s)->order, TREE_EDITOR_SLOTS
 
 /* Each array is lent as a pointer and its number of elements. */
-#define TREE_EDITOR_STORE                                                                                            \
-    uint64_t *plens, size_t plens_len, uint8_t *paths, size_t paths_len, uint64_t *tlens, size_t tlens_len,          \
-        uint8_t *trees, size_t trees_len
-#define TREE_EDITOR_READ                                                                                             \
-    const uint64_t *plens, size_t plens_len, const uint8_t *paths, size_t paths_len, const uint64_t *tlens, size_t tlens_len, \
-        const uint8_t *trees, size_t trees_len, const uint64_t *order, size_t order_len
-#define TREE_EDITOR_ORDER const uint64_t *order, size_t order_len
+#define TREE_EDITOR_STORE                                                                                                 \
+    uint64_t *plens, uint64_t plens_len, uint8_t *paths, uint64_t paths_len, uint64_t *tlens, uint64_t tlens_len,         \
+        uint8_t *trees, uint64_t trees_len
+#define TREE_EDITOR_READ                                                                                                  \
+    const uint64_t *plens, uint64_t plens_len, const uint8_t *paths, uint64_t paths_len, const uint64_t *tlens,           \
+        uint64_t tlens_len, const uint8_t *trees, uint64_t trees_len, const uint64_t *order, uint64_t order_len
+#define TREE_EDITOR_ORDER const uint64_t *order, uint64_t order_len
 /* The object table: ids end to end, one end offset per object, raw trees end to end. The first equal id counts. */
-#define TREE_EDITOR_TABLE                                                                                            \
-    const uint8_t *ids, size_t ids_len, const uint32_t *ends, size_t ends_len, const uint8_t *raws, size_t raws_len
+#define TREE_EDITOR_TABLE                                                                                                 \
+    const uint8_t *ids, uint64_t ids_len, const uint32_t *ends, uint64_t ends_len, const uint8_t *raws, uint64_t raws_len
+
+/* Arguments for callers: a table of no objects, and the prefix of calls from the root. */
+#define TREE_EDITOR_NO_TABLE NULL, 0, NULL, 0, NULL, 0
+#define TREE_EDITOR_ROOT NULL, 0
 
 #ifdef __cplusplus
 extern "C" {
@@ -94,48 +119,49 @@ extern "C" {
 
 /* Makes an editor with this raw tree as its root (no bytes: the empty tree), whatever record and arrays held. 13, only for arrays that are
  * too short, then 12, 5. */
-uint8_t tree_editor_new(tree_editor *ed, TREE_EDITOR_STORE, TREE_EDITOR_ORDER, const uint8_t *raw, size_t raw_len);
+uint8_t tree_editor_new(tree_editor *ed, TREE_EDITOR_STORE, TREE_EDITOR_ORDER, const uint8_t *raw, uint64_t raw_len);
 /* Sets a new root; all cached trees go. 13, 9, 12, 5. */
-uint8_t tree_editor_set_root(tree_editor *ed, TREE_EDITOR_STORE, TREE_EDITOR_ORDER, const uint8_t *raw, size_t raw_len);
+uint8_t tree_editor_set_root(tree_editor *ed, TREE_EDITOR_STORE, TREE_EDITOR_ORDER, const uint8_t *raw, uint64_t raw_len);
 
-/* Edits, from the root, and (`_at`) from the tree cached at a prefix. 14, 13, 9, 7, 8, 6, then 5 or 1 to 4. */
-uint8_t tree_editor_upsert(tree_editor *ed, TREE_EDITOR_STORE, TREE_EDITOR_ORDER, TREE_EDITOR_TABLE, const uint8_t *path, size_t path_len,
-                           const uint8_t *id, size_t id_len, uint32_t mode);
-uint8_t tree_editor_upsert_at(tree_editor *ed, TREE_EDITOR_STORE, TREE_EDITOR_ORDER, TREE_EDITOR_TABLE, const uint8_t *prefix, size_t prefix_len,
-                              const uint8_t *path, size_t path_len, const uint8_t *id, size_t id_len, uint32_t mode);
-uint8_t tree_editor_remove(tree_editor *ed, TREE_EDITOR_STORE, TREE_EDITOR_ORDER, TREE_EDITOR_TABLE, const uint8_t *path, size_t path_len);
-uint8_t tree_editor_remove_at(tree_editor *ed, TREE_EDITOR_STORE, TREE_EDITOR_ORDER, TREE_EDITOR_TABLE, const uint8_t *prefix, size_t prefix_len,
-                              const uint8_t *path, size_t path_len);
-uint8_t tree_editor_remove_leaf(tree_editor *ed, TREE_EDITOR_STORE, TREE_EDITOR_ORDER, TREE_EDITOR_TABLE, const uint8_t *path, size_t path_len);
-uint8_t tree_editor_remove_leaf_at(tree_editor *ed, TREE_EDITOR_STORE, TREE_EDITOR_ORDER, TREE_EDITOR_TABLE, const uint8_t *prefix,
-                                   size_t prefix_len, const uint8_t *path, size_t path_len);
-/* Opens a cursor at a path: where it gives 0, the path is the cursor, to be lent as prefix to the calls `_at`. */
-uint8_t tree_editor_cursor_at(tree_editor *ed, TREE_EDITOR_STORE, TREE_EDITOR_ORDER, TREE_EDITOR_TABLE, const uint8_t *path, size_t path_len);
+/* Edits, from the tree that is cached at a prefix: a cursor's path, or TREE_EDITOR_ROOT. 255 (an upsert alone), 13, 9, 7, 8, 6, then 5 or 1 to
+ * 4. */
+uint8_t tree_editor_upsert(tree_editor *ed, TREE_EDITOR_STORE, TREE_EDITOR_ORDER, TREE_EDITOR_TABLE, const uint8_t *prefix, uint64_t prefix_len,
+                           const uint8_t *path, uint64_t path_len, const uint8_t *id, uint64_t id_len, uint32_t mode);
+/* Removes an entry, a tree with all below it; where there is none, nothing happens. */
+uint8_t tree_editor_remove(tree_editor *ed, TREE_EDITOR_STORE, TREE_EDITOR_ORDER, TREE_EDITOR_TABLE, const uint8_t *prefix, uint64_t prefix_len,
+                           const uint8_t *path, uint64_t path_len);
+/* Removes an entry, but refuses a tree: 4. */
+uint8_t tree_editor_remove_leaf(tree_editor *ed, TREE_EDITOR_STORE, TREE_EDITOR_ORDER, TREE_EDITOR_TABLE, const uint8_t *prefix,
+                                uint64_t prefix_len, const uint8_t *path, uint64_t path_len);
+/* Opens a cursor at a path: where it gives 0, the path is the cursor, to be lent as prefix. 13, 9, 7, 6, then 5 or 1 to 3. */
+uint8_t tree_editor_cursor_at(tree_editor *ed, TREE_EDITOR_STORE, TREE_EDITOR_ORDER, TREE_EDITOR_TABLE, const uint8_t *path, uint64_t path_len);
 
-/* Looks a path up in the cached trees: the entry's mode (040000 or more) with its id at the front of `id`, or 0 where there is none, or
- * the number of the refusal: 13, 9, 8, 6, and 11 where an entry is found and `id` has less than 20 bytes. Changes nothing but `id`. */
-uint32_t tree_editor_get(tree_editor ed, TREE_EDITOR_READ, const uint8_t *path, size_t path_len, uint8_t *id, size_t id_len);
-uint32_t tree_editor_get_at(tree_editor ed, TREE_EDITOR_READ, const uint8_t *prefix, size_t prefix_len, const uint8_t *path, size_t path_len,
-                            uint8_t *id, size_t id_len);
+/* Looks a path up in the cached trees, from the one at a prefix: the entry's mode (040000 or more) with its id at the front of `id`, or 0 where
+ * there is none, or the number of the refusal: 255, exactly where `id` has less than 20 bytes, 13, 9, 8, 6. Changes nothing but `id`, and
+ * that only where an entry is found. */
+uint32_t tree_editor_get(tree_editor ed, TREE_EDITOR_READ, const uint8_t *prefix, uint64_t prefix_len, const uint8_t *path, uint64_t path_len,
+                         uint8_t *id, uint64_t id_len);
 
-/* Begins a write, from the root, and (`_at`) from the tree cached at a prefix. 13, 9, 8. */
-uint8_t tree_editor_begin(tree_editor *ed, TREE_EDITOR_STORE, uint64_t *order, size_t order_len);
-uint8_t tree_editor_begin_at(tree_editor *ed, TREE_EDITOR_STORE, uint64_t *order, size_t order_len, const uint8_t *prefix, size_t prefix_len);
+/* Begins a write from the root: when it is over, only the root is cached. 13, 9. */
+uint8_t tree_editor_begin(tree_editor *ed, TREE_EDITOR_STORE, uint64_t *order, uint64_t order_len);
+/* Begins a write from the tree that is cached at a prefix: when it is over, that tree is cached, and what the write did not visit. So a
+ * cursor at the root ends otherwise than the root, and TREE_EDITOR_ROOT is a cursor here. 13, 9, 8. */
+uint8_t tree_editor_begin_at(tree_editor *ed, TREE_EDITOR_STORE, uint64_t *order, uint64_t order_len, const uint8_t *prefix, uint64_t prefix_len);
 /* Reads the open request: the raw tree to the front of `out` and the path it belongs at to the front of `path`, their lengths to lens[0] and
- * lens[1]. 14 where `path` has fewer than TREE_EDITOR_PATH bytes or `lens` fewer than 2 elements, 13, 10; 11 where `out` is too short, with
+ * lens[1]. 255 where `path` has fewer than TREE_EDITOR_PATH bytes or `lens` fewer than 2 elements, 13, 10; 11 where `out` is too short, with
  * the length needed in lens[0] and nothing else changed: TREE_EDITOR_OUTPUT bytes always suffice. */
-uint8_t tree_editor_request(tree_editor ed, TREE_EDITOR_READ, uint8_t *out, size_t out_len, uint8_t *path, size_t path_len, size_t *lens,
-                            size_t lens_len);
-/* Answers the open request with the id of the tree that was requested. 14, 13, 10. The write is over when ed->open is 0. */
-uint8_t tree_editor_answer(tree_editor *ed, TREE_EDITOR_STORE, uint64_t *order, size_t order_len, const uint8_t *id, size_t id_len);
+uint8_t tree_editor_request(tree_editor ed, TREE_EDITOR_READ, uint8_t *out, uint64_t out_len, uint8_t *path, uint64_t path_len, uint64_t *lens,
+                            uint64_t lens_len);
+/* Answers the open request with the id of the tree that was requested. 255, 13, 10. The write is over when ed->open is 0. */
+uint8_t tree_editor_answer(tree_editor *ed, TREE_EDITOR_STORE, uint64_t *order, uint64_t order_len, const uint8_t *id, uint64_t id_len);
 /* Answers the open request and reads the one that is open then, exactly as tree_editor_answer and then tree_editor_request would, with one
  * check of record and arrays instead of two. Gives the number of the answer, and in next[0] that of the reading: 0 with the request in `out`,
  * `path` and `lens`; 10 where the write is over, and 11, with the length needed in lens[0], where the answer is made and tree_editor_request
- * reads the next request; the answer's own number where it is refused. 14, with nothing in next[0], where `id` has not 20 bytes, `path` fewer
- * than TREE_EDITOR_PATH bytes, `lens` fewer than 2 elements or `next` none. */
-uint8_t tree_editor_answer_and_request(tree_editor *ed, TREE_EDITOR_STORE, uint64_t *order, size_t order_len, const uint8_t *id, size_t id_len,
-                                       uint8_t *out, size_t out_len, uint8_t *path, size_t path_len, size_t *lens, size_t lens_len,
-                                       uint8_t *next, size_t next_len);
+ * reads the next request (to answer again would answer that one); the answer's own number where it is refused. 255, with nothing in next[0],
+ * where `id` has not 20 bytes, `path` fewer than TREE_EDITOR_PATH bytes, `lens` fewer than 2 elements or `next` none. */
+uint8_t tree_editor_answer_and_request(tree_editor *ed, TREE_EDITOR_STORE, uint64_t *order, uint64_t order_len, const uint8_t *id, uint64_t id_len,
+                                       uint8_t *out, uint64_t out_len, uint8_t *path, uint64_t path_len, uint64_t *lens, uint64_t lens_len,
+                                       uint8_t *next, uint64_t next_len);
 /* Fails the open request: the start tree goes back as it stands, the other taken trees are lost. 13, 10. */
 uint8_t tree_editor_fail(tree_editor *ed, TREE_EDITOR_STORE, TREE_EDITOR_ORDER);
 

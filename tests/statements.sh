@@ -1,5 +1,5 @@
 #!/usr/bin/env bash
-# The list of public calls that the theorems of crates/promises speak of says of each call what its contract says.
+# The list of public calls that the theorems of crates/theorems speak of says of each call what its contract says.
 set -euo pipefail
 cd "$(dirname "$0")/.."
-python3 tools/same_statements.py
+python3 tests/same_statements.py

@@ -87,7 +87,7 @@ fn editor(root: &[u8], objects: &'static Objects) -> Ours {
     Ours { ed: Editor::new(Box::default(), root, table).unwrap(), out: Box::default(), raw: vec![0; 45056], path: [0; 1024], raws: Vec::with_capacity(200_000) }
 }
 fn original(root: &[u8], objects: &'static Objects) -> Theirs {
-    let entries = gix_object::tree::decode(root, gix_object::tree::Strict::Document01).unwrap();
+    let entries = gix_object::tree::decode(root, gix_object::tree::Strict::Rules).unwrap();
     let tree: Tree = gix_object::TreeRef { entries }.into();
     Theirs { ed: Original::new(tree, objects, gix_hash::Kind::Sha1), raws: Vec::with_capacity(200_000) }
 }
@@ -288,7 +288,7 @@ fn w_request(s: &mut Ours, path: &mut [u8; 1024], raw: &mut [u8]) {
 #[inline(never)]
 #[unsafe(no_mangle)]
 fn w_answer_and_request(s: &mut Ours, k: usize, path: &mut [u8; 1024], raw: &mut [u8]) {
-    black_box(s.ed.answer_and_request(id(k), raw, path).unwrap());
+    let _ = black_box(s.ed.answer_and_request(id(k), raw, path).unwrap());
 }
 
 /// Where the instructions of single calls and of the write go: its calls one by one, and the check once for each of them.

@@ -1,19 +1,10 @@
 /* A lesson's files as Git trees: a new editor, upserts, a cursor, a lookup, and the write, request by request.
  * Nothing here uses the heap: record, store and output are static. */
-#include "tree_editor.h"
-#include "sha1.h"
-
-#include <stdio.h>
-#include <stdlib.h>
-#include <string.h>
+#include "example.h"
 
 static tree_editor ed;
 static tree_editor_store store;
 static uint8_t out[TREE_EDITOR_OUTPUT], at[TREE_EDITOR_PATH];
-
-/* No object table: this lesson starts from nothing. */
-#define NO_TABLE NULL, 0, NULL, 0, NULL, 0
-#define BYTES(text) (const uint8_t *)(text), strlen(text)
 
 static const struct {
     const char *path, *text;
@@ -27,27 +18,16 @@ static const struct {
     {"notes/\xc3\xa9tude.txt", "fini\n", TREE_EDITOR_BLOB}, /* "étude.txt" in UTF-8: ten bytes */
 };
 
-static void need(uint8_t number, const char *what) {
-    printf("%s: %u\n", what, number);
-    if (number != TREE_EDITOR_DONE) exit(1);
-}
-
-static void print_id(const uint8_t *id) {
-    for (int i = 0; i < TREE_EDITOR_ID; i++) printf("%02x", id[i]);
-    printf("\n");
-}
-
 /* Writes everything: each requested tree is hashed (an adapter would also send it), and its id is the answer, which reads the next request. */
 static void write_trees(void) {
     uint8_t id[TREE_EDITOR_ID];
     uint8_t next;
-    size_t lens[2];
+    uint64_t lens[2];
     need(tree_editor_begin(&ed, TREE_EDITOR_LENT(&store)), "begin");
     next = tree_editor_request(ed, TREE_EDITOR_LENT(&store), out, sizeof out, at, sizeof at, lens, 2);
     while (next == TREE_EDITOR_DONE) {
         git_id(id, "tree", out, lens[0]);
-        printf("tree '%.*s', %zu bytes: ", (int)lens[1], (const char *)at, lens[0]);
-        print_id(id);
+        print_tree(at, lens, id);
         if (tree_editor_answer_and_request(&ed, TREE_EDITOR_LENT(&store), id, sizeof id, out, sizeof out, at, sizeof at, lens, 2, &next, 1) !=
             TREE_EDITOR_DONE)
             exit(1);
@@ -58,24 +38,26 @@ static void write_trees(void) {
 int main(void) {
     uint8_t id[TREE_EDITOR_ID];
     need(tree_editor_new(&ed, TREE_EDITOR_LENT(&store), NULL, 0), "new");
+    /* This lesson starts from nothing, so there is no object to list in a table. */
     for (size_t i = 0; i < sizeof files / sizeof files[0]; i++) {
         git_id(id, "blob", files[i].text, strlen(files[i].text));
-        need(tree_editor_upsert(&ed, TREE_EDITOR_LENT(&store), NO_TABLE, BYTES(files[i].path), id, sizeof id, files[i].mode),
+        need(tree_editor_upsert(&ed, TREE_EDITOR_LENT(&store), TREE_EDITOR_NO_TABLE, TREE_EDITOR_ROOT, BYTES(files[i].path), id, sizeof id,
+                                files[i].mode),
              files[i].path);
     }
-    /* A cursor: its path is lent as the prefix of the calls `_at`. */
-    need(tree_editor_cursor_at(&ed, TREE_EDITOR_LENT(&store), NO_TABLE, BYTES("src/board")), "cursor at src/board");
+    /* A cursor: its path is lent as the prefix. */
+    need(tree_editor_cursor_at(&ed, TREE_EDITOR_LENT(&store), TREE_EDITOR_NO_TABLE, BYTES("src/board")), "cursor at src/board");
     git_id(id, "blob", "#pragma once\n", 13);
-    need(tree_editor_upsert_at(&ed, TREE_EDITOR_LENT(&store), NO_TABLE, BYTES("src/board"), BYTES("led.h"), id, sizeof id,
-                               TREE_EDITOR_BLOB),
+    need(tree_editor_upsert(&ed, TREE_EDITOR_LENT(&store), TREE_EDITOR_NO_TABLE, BYTES("src/board"), BYTES("led.h"), id, sizeof id,
+                            TREE_EDITOR_BLOB),
          "led.h");
 
     printf("get notes/\xc3\xa9tude.txt: %o ",
-           tree_editor_get(ed, TREE_EDITOR_LENT(&store), BYTES("notes/\xc3\xa9tude.txt"), id, sizeof id));
+           tree_editor_get(ed, TREE_EDITOR_LENT(&store), TREE_EDITOR_ROOT, BYTES("notes/\xc3\xa9tude.txt"), id, sizeof id));
     print_id(id);
-    printf("get absent: %o\n", tree_editor_get(ed, TREE_EDITOR_LENT(&store), BYTES("absent"), id, sizeof id));
-    printf("upsert src//x: %u\n",
-           tree_editor_upsert(&ed, TREE_EDITOR_LENT(&store), NO_TABLE, BYTES("src//x"), id, sizeof id, TREE_EDITOR_BLOB));
+    printf("get absent: %o\n", tree_editor_get(ed, TREE_EDITOR_LENT(&store), TREE_EDITOR_ROOT, BYTES("absent"), id, sizeof id));
+    printf("upsert src//x: %u\n", tree_editor_upsert(&ed, TREE_EDITOR_LENT(&store), TREE_EDITOR_NO_TABLE, TREE_EDITOR_ROOT, BYTES("src//x"),
+                                                     id, sizeof id, TREE_EDITOR_BLOB));
     write_trees();
     return 0;
 }

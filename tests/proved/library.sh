@@ -12,5 +12,5 @@ if command -v cargo > /dev/null; then
 else
   echo "no cargo: the Rust wrapper is not tested"
 fi
-fuzz/run.sh 1 20000
-fuzz/slips.sh
+tests/fuzz/run.sh 1 20000
+tests/fuzz/slips.sh

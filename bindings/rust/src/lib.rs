@@ -5,6 +5,25 @@
 //!
 //! What differs from the Rust: trees are given and handed out in raw form; the object table is lent; every limit has a number ([`Error`]);
 //! `get` says why it refused; `write` is lent the memory for its output.
+//!
+//! # What surprises a caller
+//!
+//! - [`Editor::new`] starts over: it asks nothing of the store, and forgets an editor that lies there.
+//! - [`Error::StoreDamaged`] does not only mean damage: in C it is also the answer where an array is too short and where no editor has been
+//!   made yet. Neither can happen here: a [`Store`] has its length, and an [`Editor`] has been made.
+//! - A path of no bytes names nothing: an edit with it does nothing, a lookup finds nothing, and a cursor opened there stands at the root.
+//! - A slash at the end is an empty component: an upsert of `a/` gives [`Error::EmptyComponent`], and the tree `a` that it made or loaded on its
+//!   way stays.
+//! - Opening a cursor is an edit. Where no tree is cached at its path, the folder starts empty there and its id is forgotten, even if the
+//!   table lists it: the write then leaves out what the folder held. To keep that, make an edit below the folder first, which loads it.
+//! - A lookup sees cached trees only, and gives a folder's old id, whatever was changed below it ([`NULL`] for a new one), until the write
+//!   answers for the folder.
+//! - Entries with the id [`NULL`] vanish when their tree is written, and so do trees that have no entry left; only the tree that the write
+//!   starts from is requested even when it is empty.
+//! - A removed folder's tree stays cached: a later upsert below its path brings back what it held.
+//! - After [`Editor::write`] only the root is cached. The next edit below a folder looks up the id that was answered for it, so the trees
+//!   that were just written have to be in the table ([`Editor::set_table`]), or it gives [`Error::TreeNotFound`]. After [`Cursor::write`] the
+//!   cursor's tree stays cached, and so does what the write did not visit.
 #![no_std]
 #![warn(missing_docs)]
 
@@ -34,14 +53,14 @@ pub const NULL: Id = [0; 20];
 struct Record {
     free: u64,
     hidden: u64,
-    paths: usize,
-    trees: usize,
-    entries: usize,
-    names: usize,
+    paths: u64,
+    trees: u64,
+    entries: u64,
+    names: u64,
     open: u64,
-    aside: usize,
-    stacked: usize,
-    asked: usize,
+    aside: u64,
+    stacked: u64,
+    asked: u64,
 }
 
 /// The memory that an editor's trees lie in. What it holds before an editor is made does not matter.
@@ -138,6 +157,19 @@ pub struct Request<'o> {
     pub raw: &'o [u8],
 }
 
+/// What an answer leads to, where it is taken.
+#[derive(Clone, Copy, Debug, PartialEq, Eq)]
+#[must_use]
+pub enum Answered<'o> {
+    /// The write is over.
+    Over,
+    /// The next request.
+    Next(Request<'o>),
+    /// The next request's raw tree has more bytes than the output that was lent. The answer is made: [`request`](Editor::request) reads the
+    /// next request; to answer again would answer that one.
+    Needs(usize),
+}
+
 /// Why a call did not do what it was asked. From `NoRoom` on, nothing has changed.
 #[derive(Clone, Copy, Debug, PartialEq, Eq)]
 pub enum Error {
@@ -168,7 +200,7 @@ pub enum Error {
     },
     /// 12: the new root isn't a well-formed raw tree.
     BadRoot,
-    /// 13: record and store hold no editor.
+    /// 13: record and store hold no editor: someone else wrote to the store.
     StoreDamaged,
 }
 
@@ -193,7 +225,7 @@ impl Error {
     }
 
     /// The answer of a C function as a result; `needed` is for number 11.
-    fn of(number: u8, needed: usize) -> Result<(), Error> {
+    fn of(number: u8, needed: u64) -> Result<(), Error> {
         Err(match number {
             0 => return Ok(()),
             1 => Error::EmptyComponent,
@@ -206,7 +238,7 @@ impl Error {
             8 => Error::CursorStale,
             9 => Error::WriteOpen,
             10 => Error::NoWriteOpen,
-            11 => Error::OutputShort { needed },
+            11 => Error::OutputShort { needed: needed as usize },
             12 => Error::BadRoot,
             13 => Error::StoreDamaged,
             _ => unreachable!("number {number} is for arguments that this crate does not pass"),
@@ -236,33 +268,31 @@ macro_rules! call {
         let s: &mut Store = $ed.store.borrow_mut();
         // SAFETY: each pointer comes from a borrow of its own that lasts over the call, with its length; the library asks nothing of what they hold.
         unsafe {
-            sys::$name(&mut $ed.record, s.plens.as_mut_ptr(), SLOTS, s.paths.as_mut_ptr(), PATHS, s.tlens.as_mut_ptr(), SLOTS,
-                s.trees.as_mut_ptr(), TREES, s.order.as_mut_ptr(), SLOTS $(, $arg)*)
+            sys::$name(&mut $ed.record, s.plens.as_mut_ptr(), SLOTS as u64, s.paths.as_mut_ptr(), PATHS as u64, s.tlens.as_mut_ptr(),
+                SLOTS as u64, s.trees.as_mut_ptr(), TREES as u64, s.order.as_mut_ptr(), SLOTS as u64 $(, $arg)*)
         }
     }};
     (read $name:ident, $ed:expr $(, $arg:expr)*) => {{
         let s: &Store = $ed.store.borrow();
         // SAFETY: as above.
         unsafe {
-            sys::$name($ed.record, s.plens.as_ptr(), SLOTS, s.paths.as_ptr(), PATHS, s.tlens.as_ptr(), SLOTS,
-                s.trees.as_ptr(), TREES, s.order.as_ptr(), SLOTS $(, $arg)*)
+            sys::$name($ed.record, s.plens.as_ptr(), SLOTS as u64, s.paths.as_ptr(), PATHS as u64, s.tlens.as_ptr(), SLOTS as u64,
+                s.trees.as_ptr(), TREES as u64, s.order.as_ptr(), SLOTS as u64 $(, $arg)*)
         }
     }};
 }
 
-/// An edit: its call from the root, and below a prefix.
+/// An edit with the editor's table: the call, and its own arguments.
 macro_rules! edit {
-    ($name:ident, $at:ident, $ed:expr, $prefix:expr, $path:expr $(, $arg:expr)*) => {{
-        let (t, path) = ($ed.table, $path);
-        let number = match $prefix {
-            None => call!(edit $name, $ed, t.ids.as_ptr(), t.ids.len(), t.ends.as_ptr(), t.ends.len(), t.raws.as_ptr(), t.raws.len(),
-                path.as_ptr(), path.len() $(, $arg)*),
-            Some(p) => call!(edit $at, $ed, t.ids.as_ptr(), t.ids.len(), t.ends.as_ptr(), t.ends.len(), t.raws.as_ptr(), t.raws.len(),
-                p.as_ptr(), p.len(), path.as_ptr(), path.len() $(, $arg)*),
-        };
-        Error::of(number, 0)
+    ($name:ident, $ed:expr $(, $arg:expr)*) => {{
+        let t = $ed.table;
+        Error::of(call!(edit $name, $ed, t.ids.as_ptr(), t.ids.len() as u64, t.ends.as_ptr(), t.ends.len() as u64, t.raws.as_ptr(),
+            t.raws.len() as u64 $(, $arg)*), 0)
     }};
 }
+
+/// The prefix of calls from the root.
+const ROOT: &[u8] = &[];
 
 /// An editor over a store that is lent or owned.
 #[derive(Clone)]
@@ -282,13 +312,13 @@ impl<'t, S: BorrowMut<Store>> Editor<'t, S> {
     /// Makes an editor with this raw tree as its root (no bytes: the empty tree).
     pub fn new(store: S, root: &[u8], table: Table<'t>) -> Result<Self, Error> {
         let mut ed = Editor { record: Record::default(), store, table };
-        Error::of(call!(edit tree_editor_new, ed, root.as_ptr(), root.len()), 0)?;
+        Error::of(call!(edit tree_editor_new, ed, root.as_ptr(), root.len() as u64), 0)?;
         Ok(ed)
     }
 
     /// Sets a new root; all cached trees go.
     pub fn set_root(&mut self, root: &[u8]) -> Result<&mut Self, Error> {
-        Error::of(call!(edit tree_editor_set_root, self, root.as_ptr(), root.len()), 0)?;
+        Error::of(call!(edit tree_editor_set_root, self, root.as_ptr(), root.len() as u64), 0)?;
         Ok(self)
     }
 
@@ -300,38 +330,36 @@ impl<'t, S: BorrowMut<Store>> Editor<'t, S> {
 
     /// Sets the entry at a path, making the trees on the way.
     pub fn upsert(&mut self, path: impl AsRef<[u8]>, kind: EntryKind, id: Id) -> Result<&mut Self, Error> {
-        self.upsert_below(None, path.as_ref(), kind, id)?;
+        self.upsert_below(ROOT, path.as_ref(), kind, id)?;
         Ok(self)
     }
 
     /// Removes the entry at a path, a tree with all below it; nothing happens where there is none.
     pub fn remove(&mut self, path: impl AsRef<[u8]>) -> Result<&mut Self, Error> {
-        self.remove_below(None, path.as_ref())?;
+        self.remove_below(ROOT, path.as_ref())?;
         Ok(self)
     }
 
     /// Removes the entry at a path, unless it is a tree.
     pub fn remove_leaf(&mut self, path: impl AsRef<[u8]>) -> Result<&mut Self, Error> {
-        self.remove_leaf_below(None, path.as_ref())?;
+        self.remove_leaf_below(ROOT, path.as_ref())?;
         Ok(self)
     }
 
     /// Looks a path up in the cached trees.
     pub fn get(&self, path: impl AsRef<[u8]>) -> Result<Option<Entry>, Error> {
-        self.get_below(None, path.as_ref())
+        self.get_below(ROOT, path.as_ref())
     }
 
     /// A cursor at the root.
     pub fn to_cursor(&mut self) -> Cursor<'_, 'static, 't, S> {
-        Cursor { parent: self, prefix: &[] }
+        Cursor { parent: self, prefix: ROOT }
     }
 
-    /// Opens a cursor at a path, where a tree is then cached.
+    /// Opens a cursor at a path, where a tree is then cached: an empty one, if none was, even where the table lists the folder's.
     pub fn cursor_at<'p>(&mut self, path: &'p (impl AsRef<[u8]> + ?Sized)) -> Result<Cursor<'_, 'p, 't, S>, Error> {
-        let (t, prefix) = (self.table, path.as_ref());
-        let number = call!(edit tree_editor_cursor_at, self, t.ids.as_ptr(), t.ids.len(), t.ends.as_ptr(), t.ends.len(),
-            t.raws.as_ptr(), t.raws.len(), prefix.as_ptr(), prefix.len());
-        Error::of(number, 0)?;
+        let prefix = path.as_ref();
+        edit!(tree_editor_cursor_at, self, prefix.as_ptr(), prefix.len() as u64)?;
         Ok(Cursor { parent: self, prefix })
     }
 
@@ -356,30 +384,31 @@ impl<'t, S: BorrowMut<Store>> Editor<'t, S> {
     /// Reads the open request into an output of any length.
     pub fn request<'o>(&self, raw: &'o mut [u8], path: &'o mut [u8; PATH]) -> Result<Request<'o>, Error> {
         let mut lens = [0; 2];
-        let number =
-            call!(read tree_editor_request, self, raw.as_mut_ptr(), raw.len(), path.as_mut_ptr(), PATH, lens.as_mut_ptr(), 2);
+        let number = call!(read tree_editor_request, self, raw.as_mut_ptr(), raw.len() as u64, path.as_mut_ptr(), PATH as u64,
+            lens.as_mut_ptr(), 2);
         Error::of(number, lens[0])?;
-        Ok(Request { raw: &raw[..lens[0]], path: &path[..lens[1]] })
+        Ok(request_in(lens, raw, path))
     }
 
     /// Answers the open request with its tree's id.
     pub fn answer(&mut self, id: Id) -> Result<(), Error> {
-        Error::of(call!(edit tree_editor_answer, self, id.as_ptr(), id.len()), 0)
+        Error::of(call!(edit tree_editor_answer, self, id.as_ptr(), id.len() as u64), 0)
     }
 
     /// Answers the open request with its tree's id and reads the next one into an output of any length, with one check of the store for
-    /// both; `None` where the write is over. Where the output is too short, the answer is made, and [`request`](Self::request) reads
-    /// the next request.
-    pub fn answer_and_request<'o>(&mut self, id: Id, raw: &'o mut [u8], path: &'o mut [u8; PATH]) -> Result<Option<Request<'o>>, Error> {
+    /// both. An error means that the answer was refused, and the request is open as before; where the output is too short for the next
+    /// request, the answer is made ([`Answered::Needs`]).
+    pub fn answer_and_request<'o>(&mut self, id: Id, raw: &'o mut [u8], path: &'o mut [u8; PATH]) -> Result<Answered<'o>, Error> {
         let (mut lens, mut next) = ([0; 2], [0; 1]);
-        let number = call!(edit tree_editor_answer_and_request, self, id.as_ptr(), id.len(), raw.as_mut_ptr(), raw.len(),
-            path.as_mut_ptr(), PATH, lens.as_mut_ptr(), 2, next.as_mut_ptr(), 1);
+        let number = call!(edit tree_editor_answer_and_request, self, id.as_ptr(), id.len() as u64, raw.as_mut_ptr(), raw.len() as u64,
+            path.as_mut_ptr(), PATH as u64, lens.as_mut_ptr(), 2, next.as_mut_ptr(), 1);
         Error::of(number, 0)?;
-        if !self.is_open() {
-            return Ok(None);
-        }
-        Error::of(next[0], lens[0])?;
-        Ok(Some(Request { raw: &raw[..lens[0]], path: &path[..lens[1]] }))
+        Ok(match Error::of(next[0], lens[0]) {
+            Ok(()) => Answered::Next(request_in(lens, raw, path)),
+            Err(Error::OutputShort { needed }) => Answered::Needs(needed),
+            Err(Error::NoWriteOpen) => Answered::Over,
+            Err(e) => unreachable!("{e} is no answer of a reading after an answer"),
+        })
     }
 
     /// Fails the open request: the start tree goes back as it stands, the other taken trees are lost.
@@ -402,8 +431,9 @@ impl<'t, S: BorrowMut<Store>> Editor<'t, S> {
         loop {
             match host(asked.path, asked.raw) {
                 Ok(id) => match self.answer_and_request(id, &mut out.raw, &mut out.path).map_err(WriteError::Refused)? {
-                    Some(next) => asked = next,
-                    None => return Ok(id),
+                    Answered::Next(next) => asked = next,
+                    Answered::Over => return Ok(id),
+                    Answered::Needs(n) => unreachable!("every request fits in {OUTPUT} bytes, and this one has {n}"),
                 },
                 Err(e) => {
                     self.fail().map_err(WriteError::Refused)?;
@@ -413,26 +443,23 @@ impl<'t, S: BorrowMut<Store>> Editor<'t, S> {
         }
     }
 
-    fn upsert_below(&mut self, prefix: Option<&[u8]>, path: &[u8], kind: EntryKind, id: Id) -> Result<(), Error> {
-        edit!(tree_editor_upsert, tree_editor_upsert_at, self, prefix, path, id.as_ptr(), id.len(), kind as u32)
+    fn upsert_below(&mut self, prefix: &[u8], path: &[u8], kind: EntryKind, id: Id) -> Result<(), Error> {
+        edit!(tree_editor_upsert, self, prefix.as_ptr(), prefix.len() as u64, path.as_ptr(), path.len() as u64, id.as_ptr(), id.len() as u64,
+            kind as u32)
     }
 
-    fn remove_below(&mut self, prefix: Option<&[u8]>, path: &[u8]) -> Result<(), Error> {
-        edit!(tree_editor_remove, tree_editor_remove_at, self, prefix, path)
+    fn remove_below(&mut self, prefix: &[u8], path: &[u8]) -> Result<(), Error> {
+        edit!(tree_editor_remove, self, prefix.as_ptr(), prefix.len() as u64, path.as_ptr(), path.len() as u64)
     }
 
-    fn remove_leaf_below(&mut self, prefix: Option<&[u8]>, path: &[u8]) -> Result<(), Error> {
-        edit!(tree_editor_remove_leaf, tree_editor_remove_leaf_at, self, prefix, path)
+    fn remove_leaf_below(&mut self, prefix: &[u8], path: &[u8]) -> Result<(), Error> {
+        edit!(tree_editor_remove_leaf, self, prefix.as_ptr(), prefix.len() as u64, path.as_ptr(), path.len() as u64)
     }
 
-    fn get_below(&self, prefix: Option<&[u8]>, path: &[u8]) -> Result<Option<Entry>, Error> {
+    fn get_below(&self, prefix: &[u8], path: &[u8]) -> Result<Option<Entry>, Error> {
         let mut id = NULL;
-        let said = match prefix {
-            None => call!(read tree_editor_get, self, path.as_ptr(), path.len(), id.as_mut_ptr(), id.len()),
-            Some(p) => {
-                call!(read tree_editor_get_at, self, p.as_ptr(), p.len(), path.as_ptr(), path.len(), id.as_mut_ptr(), id.len())
-            }
-        };
+        let said = call!(read tree_editor_get, self, prefix.as_ptr(), prefix.len() as u64, path.as_ptr(), path.len() as u64,
+            id.as_mut_ptr(), id.len() as u64);
         match EntryKind::of(said) {
             Some(kind) => Ok(Some(Entry { kind, id })),
             None => Error::of(said as u8, 0).map(|()| None),
@@ -440,33 +467,38 @@ impl<'t, S: BorrowMut<Store>> Editor<'t, S> {
     }
 }
 
+/// The request that was read to the fronts of two outputs.
+fn request_in<'o>(lens: [u64; 2], raw: &'o [u8], path: &'o [u8]) -> Request<'o> {
+    Request { raw: &raw[..lens[0] as usize], path: &path[..lens[1] as usize] }
+}
+
 impl<S: BorrowMut<Store>> Cursor<'_, '_, '_, S> {
     /// Like [`Editor::upsert`], below this cursor's path.
     pub fn upsert(&mut self, path: impl AsRef<[u8]>, kind: EntryKind, id: Id) -> Result<&mut Self, Error> {
-        self.parent.upsert_below(Some(self.prefix), path.as_ref(), kind, id)?;
+        self.parent.upsert_below(self.prefix, path.as_ref(), kind, id)?;
         Ok(self)
     }
 
     /// Like [`Editor::remove`], below this cursor's path.
     pub fn remove(&mut self, path: impl AsRef<[u8]>) -> Result<&mut Self, Error> {
-        self.parent.remove_below(Some(self.prefix), path.as_ref())?;
+        self.parent.remove_below(self.prefix, path.as_ref())?;
         Ok(self)
     }
 
     /// Like [`Editor::remove_leaf`], below this cursor's path.
     pub fn remove_leaf(&mut self, path: impl AsRef<[u8]>) -> Result<&mut Self, Error> {
-        self.parent.remove_leaf_below(Some(self.prefix), path.as_ref())?;
+        self.parent.remove_leaf_below(self.prefix, path.as_ref())?;
         Ok(self)
     }
 
     /// Like [`Editor::get`], below this cursor's path.
     pub fn get(&self, path: impl AsRef<[u8]>) -> Result<Option<Entry>, Error> {
-        self.parent.get_below(Some(self.prefix), path.as_ref())
+        self.parent.get_below(self.prefix, path.as_ref())
     }
 
     /// Like [`Editor::write`], for this cursor's tree and those below it.
     pub fn write<E>(&mut self, out: &mut Output, host: impl FnMut(&[u8], &[u8]) -> Result<Id, E>) -> Result<Id, WriteError<E>> {
-        let number = call!(edit tree_editor_begin_at, self.parent, self.prefix.as_ptr(), self.prefix.len());
+        let number = call!(edit tree_editor_begin_at, self.parent, self.prefix.as_ptr(), self.prefix.len() as u64);
         Error::of(number, 0).map_err(WriteError::Refused)?;
         self.parent.finish(out, host)
     }

@@ -1,5 +1,5 @@
-//! Document 01's twelve cases, and the wrapper's own parts, through the safe calls.
-use tree_editor::{Editor, EntryKind, Error, Id, NULL, Output, Store, Table, WriteError};
+//! The twelve cases of the rules (docs/RULES.md), and the wrapper's own parts, through the safe calls.
+use tree_editor::{Answered, Editor, EntryKind, Error, Id, NULL, Output, Store, Table, WriteError};
 
 const B: Id = [0x11; 20];
 const EMPTY: Id =
@@ -205,13 +205,17 @@ fn an_answer_reads_the_next_request() {
     ed.begin().unwrap();
     assert_eq!(ed.request(&mut out, &mut path).unwrap().path, b"q");
     // too little room: the answer is made, and the next request stays open
-    assert_eq!(ed.answer_and_request(number(1), &mut out[..3], &mut path), Err(Error::OutputShort { needed: 29 }));
+    assert_eq!(ed.answer_and_request(number(1), &mut out[..3], &mut path), Ok(Answered::Needs(29)));
+    assert_eq!(ed.request(&mut out[..3], &mut path), Err(Error::OutputShort { needed: 29 }));
     assert_eq!(ed.request(&mut out[..29], &mut path).unwrap().path, b"p/s");
-    let asked = ed.answer_and_request(number(2), &mut out, &mut path).unwrap().unwrap();
-    assert_eq!((asked.path, asked.raw), (&b"p"[..], &raw(&[("100644", b"f", B), ("40000", b"s", number(2))])[..]));
-    let asked = ed.answer_and_request(number(3), &mut out, &mut path).unwrap().unwrap();
-    assert_eq!((asked.path, asked.raw), (&b""[..], &raw(&[("40000", b"p", number(3)), ("40000", b"q", number(1))])[..]));
-    assert_eq!(ed.answer_and_request(number(4), &mut out, &mut path), Ok(None));
+    for (k, path_of_next, raw_of_next) in [
+        (2, &b"p"[..], raw(&[("100644", b"f", B), ("40000", b"s", number(2))])),
+        (3, b"", raw(&[("40000", b"p", number(3)), ("40000", b"q", number(1))])),
+    ] {
+        let Ok(Answered::Next(asked)) = ed.answer_and_request(number(k), &mut out, &mut path) else { panic!("no request {k}") };
+        assert_eq!((asked.path, asked.raw), (path_of_next, &raw_of_next[..]));
+    }
+    assert_eq!(ed.answer_and_request(number(4), &mut out, &mut path), Ok(Answered::Over));
     assert!(!ed.is_open() && ed.holds());
 }
 

@@ -9,15 +9,16 @@ use Rattle.names.specs.Answers.{asMode}
 use Rattle.names.specs.Bits.{bitsOf}
 use Rattle.names.specs.Splice.{splice}
 use Rattle.names.specs.declared.mode.EntryKind.{EntryKind}
-use Rattle.edits.specs.Answers.{codeNumber}
-use Rattle.edits.specs.Ids.{idBytes}
-use Rattle.edits.specs.declared.code.Code.{Code}
-use Rattle.edits.specs.declared.id.Id.{Id}
-use Rattle.walk.specs.Lookups.{lookedAs}
-use Rattle.walk.specs.declared.look.Looked.{Looked}
-use Rattle.walk.specs.declared.look.Looked.the-variants.{Found, Missing, Refused}
-use Rattle.store.specs.Decides.{Decides}
-use Rattle.adapter.specs.Reads.{Tells, Gives}
+use Rattle.editor_terms.specs.Answers.{codeNumber}
+use Rattle.editor_terms.specs.Ids.{idBytes}
+use Rattle.editor_terms.specs.declared.code.Code.{Code}
+use Rattle.editor_terms.specs.declared.id.Id.{Id}
+use Rattle.editor_walk.specs.Lookups.{lookedAs}
+use Rattle.editor_walk.specs.declared.look.Looked.{Looked}
+use Rattle.editor_walk.specs.declared.look.Looked.the-variants.{Found, Missing, Refused}
+use Rattle.store_check.specs.Decides.{Decides}
+use Rattle.editor.specs.Lent.{Lent}
+use Rattle.adapter.specs.Reads.{Tells, Gives, Finds, Gets}
 
 pub tells-one : (P : Type 0) (b : Bool) → Decides P b → b ≡ true → Tells P 1
 tells-one P b d e = record { one = λ h. d .yes e; so = λ h. refl; bit = λ n. absurd (n refl) }
@@ -32,10 +33,12 @@ module _ (v : Looked) (d : Bytes) where
   pub gives-refused : (code : Code) (n : ℕ) → v ≡ Refused code → n ≡ codeNumber code → (name : Bytes) → Gives (lookedAs name v) d n d
   gives-refused code n e h name = subst (λ (x : Looked). Gives (lookedAs name x) d n d) (sym e) (h, refl)
 
-  module _ (kind : EntryKind) (i : Id) (is : v ≡ Found kind i) where
-    pub gives-short : length d < 20 → (name : Bytes) → Gives (lookedAs name v) d 11 d
-    gives-short h name = subst (λ (x : Looked). Gives (lookedAs name x) d 11 d) (sym is) ((λ _. (refl, refl)), (λ g. absurd (omega (arith, h, g))))
+  pub gives-found : (kind : EntryKind) (i : Id) → v ≡ Found kind i → (n : ℕ) (a b : Bytes) → n ≡ bitsOf (asMode kind) → b ≡ idBytes i → a ≡ splice d 0 b → (name : Bytes) → Gives (lookedAs name v) d n a
+  gives-found kind i is n a b m w p name = subst (λ (x : Looked). Gives (lookedAs name x) d n a) (sym is) (m, p ∙ ap (splice d 0) w)
 
-    pub gives-found : (n : ℕ) (a b : Bytes) → 20 ≤ length d → n ≡ bitsOf (asMode kind) → b ≡ idBytes i → a ≡ splice d 0 b → (name : Bytes) → Gives (lookedAs name v) d n a
-    gives-found n a b h m w p name =
-        subst (λ (x : Looked). Gives (lookedAs name x) d n a) (sym is) ((λ g. absurd (omega (arith, h, g))), (λ _. (m, p ∙ ap (splice d 0) w)))
+module _ (prefix path : Bytes) (s : Lent) (d : Bytes) where
+  pub short-slice : length d < 20 → Gets prefix path s d 255 d
+  short-slice h = record { bad = λ _. (refl, refl); good = λ g. absurd (omega (arith, h, g)) }
+
+  pub finds : (n : ℕ) (a : Bytes) → 20 ≤ length d → Finds prefix path s d n a → Gets prefix path s d n a
+  finds n a h f = record { bad = λ g. absurd (omega (arith, h, g)); good = λ _. f }

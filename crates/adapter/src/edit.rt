@@ -1,18 +1,17 @@
 // Edits, and the opening of a cursor, for C.
 ghost use mathlib.Core.Bool.{false};
-ghost use mathlib.Core.List.{[]};
 ghost use Rattle.model.specs.Formats.{sha1};
 ghost use Rattle.model.specs.Calls as model;
 ghost use Rattle.model.specs.Walk as walk;
-ghost use Rattle.edits.specs.Objects.{tableOf};
+ghost use Rattle.editor_terms.specs.Objects.{tableOf};
 ghost use Rattle.editor.specs.Lent.{lent, Does};
-ghost use Rattle.numbered.specs.Numbers.{Numbers, putBy};
-use slots::Editor;
+ghost use Rattle.adapter_numbers.specs.Numbers.{Numbers, putBy};
+use store_slots::Record;
 
-// Sets the entry at a path below a prefix: 14 where the mode is none of the five, or the id has not 20 bytes.
+// Sets the entry at a path below a prefix: 255 where the mode is none of the five, or the id has not 20 bytes.
 #[no_mangle]
-pub extern "C" fn tree_editor_upsert_at(
-    ed: &mut Editor,
+pub extern "C" fn tree_editor_upsert(
+    ed: &mut Record,
     plens: &mut [u64],
     paths: &mut [u8],
     tlens: &mut [u64],
@@ -30,7 +29,7 @@ pub extern "C" fn tree_editor_upsert_at(
         (lent (now (ed .entry)) (now (plens .entry)) (now (paths .entry)) (now (tlens .entry)) (now (trees .entry)) (now (order .entry))) r
         (lent (now (ed .exit)) (now (plens .exit)) (now (paths .exit)) (now (tlens .exit)) (now (trees .exit)) (now (order .exit))) ⌝ }
 {
-    let d = numbered::edit::upsert_at(
+    let d = adapter_numbers::edit::upsert(
         *ed,
         plens,
         paths,
@@ -49,48 +48,10 @@ pub extern "C" fn tree_editor_upsert_at(
     d.code
 }
 
-// Sets the entry at a path.
-#[no_mangle]
-pub extern "C" fn tree_editor_upsert(
-    ed: &mut Editor,
-    plens: &mut [u64],
-    paths: &mut [u8],
-    tlens: &mut [u64],
-    trees: &mut [u8],
-    order: &[u64],
-    ids: &[u8],
-    ends: &[u32],
-    raws: &[u8],
-    path: &[u8],
-    id: &[u8],
-    mode: u32,
-) -> u8
-    ensures { λ r. ⌜ Numbers (putBy (tableOf (now (ids .entry)) (now (ends .entry)) (now (raws .entry))) mode (now (id .entry)) [] (now (path .entry)))
-        (lent (now (ed .entry)) (now (plens .entry)) (now (paths .entry)) (now (tlens .entry)) (now (trees .entry)) (now (order .entry))) r
-        (lent (now (ed .exit)) (now (plens .exit)) (now (paths .exit)) (now (tlens .exit)) (now (trees .exit)) (now (order .exit))) ⌝ }
-{
-    let d = numbered::edit::upsert(
-        *ed,
-        plens,
-        paths,
-        tlens,
-        trees,
-        order,
-        ids,
-        ends,
-        raws,
-        path,
-        id,
-        mode,
-    );
-    *ed = d.ed;
-    d.code
-}
-
 // Removes the entry at a path below a prefix.
 #[no_mangle]
-pub extern "C" fn tree_editor_remove_at(
-    ed: &mut Editor,
+pub extern "C" fn tree_editor_remove(
+    ed: &mut Record,
     plens: &mut [u64],
     paths: &mut [u8],
     tlens: &mut [u64],
@@ -106,7 +67,7 @@ pub extern "C" fn tree_editor_remove_at(
         (lent (now (ed .entry)) (now (plens .entry)) (now (paths .entry)) (now (tlens .entry)) (now (trees .entry)) (now (order .entry))) r
         (lent (now (ed .exit)) (now (plens .exit)) (now (paths .exit)) (now (tlens .exit)) (now (trees .exit)) (now (order .exit))) ⌝ }
 {
-    let d = numbered::edit::remove_at(
+    let d = adapter_numbers::edit::remove(
         *ed,
         plens,
         paths,
@@ -123,44 +84,10 @@ pub extern "C" fn tree_editor_remove_at(
     d.code
 }
 
-// Removes the entry at a path.
-#[no_mangle]
-pub extern "C" fn tree_editor_remove(
-    ed: &mut Editor,
-    plens: &mut [u64],
-    paths: &mut [u8],
-    tlens: &mut [u64],
-    trees: &mut [u8],
-    order: &[u64],
-    ids: &[u8],
-    ends: &[u32],
-    raws: &[u8],
-    path: &[u8],
-) -> u8
-    ensures { λ r. ⌜ Does (model.edited sha1 (tableOf (now (ids .entry)) (now (ends .entry)) (now (raws .entry))) (walk.remove walk.ANY) false [] (now (path .entry)))
-        (lent (now (ed .entry)) (now (plens .entry)) (now (paths .entry)) (now (tlens .entry)) (now (trees .entry)) (now (order .entry))) r
-        (lent (now (ed .exit)) (now (plens .exit)) (now (paths .exit)) (now (tlens .exit)) (now (trees .exit)) (now (order .exit))) ⌝ }
-{
-    let d = numbered::edit::remove(
-        *ed,
-        plens,
-        paths,
-        tlens,
-        trees,
-        order,
-        ids,
-        ends,
-        raws,
-        path,
-    );
-    *ed = d.ed;
-    d.code
-}
-
 // Removes the entry at a path below a prefix, which must not be a tree.
 #[no_mangle]
-pub extern "C" fn tree_editor_remove_leaf_at(
-    ed: &mut Editor,
+pub extern "C" fn tree_editor_remove_leaf(
+    ed: &mut Record,
     plens: &mut [u64],
     paths: &mut [u8],
     tlens: &mut [u64],
@@ -176,7 +103,7 @@ pub extern "C" fn tree_editor_remove_leaf_at(
         (lent (now (ed .entry)) (now (plens .entry)) (now (paths .entry)) (now (tlens .entry)) (now (trees .entry)) (now (order .entry))) r
         (lent (now (ed .exit)) (now (plens .exit)) (now (paths .exit)) (now (tlens .exit)) (now (trees .exit)) (now (order .exit))) ⌝ }
 {
-    let d = numbered::edit::remove_leaf_at(
+    let d = adapter_numbers::edit::remove_leaf(
         *ed,
         plens,
         paths,
@@ -193,44 +120,10 @@ pub extern "C" fn tree_editor_remove_leaf_at(
     d.code
 }
 
-// Removes the entry at a path, which must not be a tree.
-#[no_mangle]
-pub extern "C" fn tree_editor_remove_leaf(
-    ed: &mut Editor,
-    plens: &mut [u64],
-    paths: &mut [u8],
-    tlens: &mut [u64],
-    trees: &mut [u8],
-    order: &[u64],
-    ids: &[u8],
-    ends: &[u32],
-    raws: &[u8],
-    path: &[u8],
-) -> u8
-    ensures { λ r. ⌜ Does (model.edited sha1 (tableOf (now (ids .entry)) (now (ends .entry)) (now (raws .entry))) (walk.remove walk.LEAF) false [] (now (path .entry)))
-        (lent (now (ed .entry)) (now (plens .entry)) (now (paths .entry)) (now (tlens .entry)) (now (trees .entry)) (now (order .entry))) r
-        (lent (now (ed .exit)) (now (plens .exit)) (now (paths .exit)) (now (tlens .exit)) (now (trees .exit)) (now (order .exit))) ⌝ }
-{
-    let d = numbered::edit::remove_leaf(
-        *ed,
-        plens,
-        paths,
-        tlens,
-        trees,
-        order,
-        ids,
-        ends,
-        raws,
-        path,
-    );
-    *ed = d.ed;
-    d.code
-}
-
 // Opens a cursor at a path, where a tree is then cached.
 #[no_mangle]
 pub extern "C" fn tree_editor_cursor_at(
-    ed: &mut Editor,
+    ed: &mut Record,
     plens: &mut [u64],
     paths: &mut [u8],
     tlens: &mut [u64],
@@ -245,7 +138,7 @@ pub extern "C" fn tree_editor_cursor_at(
         (lent (now (ed .entry)) (now (plens .entry)) (now (paths .entry)) (now (tlens .entry)) (now (trees .entry)) (now (order .entry))) r
         (lent (now (ed .exit)) (now (plens .exit)) (now (paths .exit)) (now (tlens .exit)) (now (trees .exit)) (now (order .exit))) ⌝ }
 {
-    let d = numbered::edit::cursor_at(
+    let d = adapter_numbers::edit::cursor_at(
         *ed,
         plens,
         paths,

@@ -1,12 +1,13 @@
 // Reading the open request, for C.
 ghost use Rattle.editor.specs.Lent.{lent};
-ghost use Rattle.numbered.specs.Asks.{slices, Asks};
-use slots::Editor;
+ghost use Rattle.adapter_numbers.specs.Asks.{slices, Asks};
+use names::limits::PATH;
+use store_slots::Record;
 
 // Writes the raw tree that is requested and the path it belongs at to the fronts of the slices.
 #[no_mangle]
 pub extern "C" fn tree_editor_request(
-    ed: Editor,
+    ed: Record,
     plens: &[u64],
     paths: &[u8],
     tlens: &[u64],
@@ -21,14 +22,14 @@ pub extern "C" fn tree_editor_request(
         (slices (now (out .entry)) (now (path .entry)) (now (lens .entry))) r (slices (now (out .exit)) (now (path .exit)) (now (lens .exit))) ⌝ }
 {
     if lens.len() < 2 {
-        return 14;
+        return 255;
     }
-    if path.len() < 1024 {
-        return 14;
+    if path.len() < PATH {
+        return 255;
     }
-    let a = writing::request::request(ed, plens, paths, tlens, trees, order, out);
+    let a = editor_write::request::request(ed, plens, paths, tlens, trees, order, out);
     let code = a.code;
     let len = a.len;
     let at = a.at;
-    numbered::told::told(code, len, at, path, lens)
+    adapter_numbers::told::tell_request(code, len, at, path, lens)
 }

@@ -3,12 +3,12 @@ ghost use Rattle.model.specs.Calls.{setRoot};
 ghost use Rattle.model.specs.Formats.{sha1};
 ghost use Rattle.editor.specs.Lent.{lent, Does};
 ghost use Rattle.editor.specs.Roots.{Makes};
-use slots::Editor;
+use store_slots::Record;
 
 // Makes an editor with this root.
 #[no_mangle]
 pub extern "C" fn tree_editor_new(
-    ed: &mut Editor,
+    ed: &mut Record,
     plens: &mut [u64],
     paths: &mut [u8],
     tlens: &mut [u64],
@@ -20,7 +20,7 @@ pub extern "C" fn tree_editor_new(
         (lent (now (ed .entry)) (now (plens .entry)) (now (paths .entry)) (now (tlens .entry)) (now (trees .entry)) (now (order .entry))) r
         (lent (now (ed .exit)) (now (plens .exit)) (now (paths .exit)) (now (tlens .exit)) (now (trees .exit)) (now (order .entry))) ⌝ }
 {
-    let d = numbered::root::new(*ed, plens, paths, tlens, trees, order, raw);
+    let d = adapter_numbers::root::new(*ed, plens, paths, tlens, trees, order, raw);
     *ed = d.ed;
     d.code
 }
@@ -28,7 +28,7 @@ pub extern "C" fn tree_editor_new(
 // Sets the root, and drops every cached tree.
 #[no_mangle]
 pub extern "C" fn tree_editor_set_root(
-    ed: &mut Editor,
+    ed: &mut Record,
     plens: &mut [u64],
     paths: &mut [u8],
     tlens: &mut [u64],
@@ -40,7 +40,7 @@ pub extern "C" fn tree_editor_set_root(
         (lent (now (ed .entry)) (now (plens .entry)) (now (paths .entry)) (now (tlens .entry)) (now (trees .entry)) (now (order .entry))) r
         (lent (now (ed .exit)) (now (plens .exit)) (now (paths .exit)) (now (tlens .exit)) (now (trees .exit)) (now (order .entry))) ⌝ }
 {
-    let d = numbered::root::set_root(*ed, plens, paths, tlens, trees, order, raw);
+    let d = adapter_numbers::root::set_root(*ed, plens, paths, tlens, trees, order, raw);
     *ed = d.ed;
     d.code
 }

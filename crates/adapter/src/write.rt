@@ -3,14 +3,14 @@ ghost use Rattle.model.specs.Editor.{fromRoot, fromCursor};
 ghost use Rattle.model.specs.Formats.{sha1};
 ghost use Rattle.model.specs.Write.{begun, failed};
 ghost use Rattle.editor.specs.Lent.{lent, Does};
-ghost use Rattle.numbered.specs.Asks.{slices, AnswersAndAsks};
-ghost use Rattle.numbered.specs.Numbers.{Numbers, answerBy};
-use slots::Editor;
+ghost use Rattle.adapter_numbers.specs.Asks.{slices, AnswersAndAsks};
+ghost use Rattle.adapter_numbers.specs.Numbers.{Numbers, answerBy};
+use store_slots::Record;
 
 // Begins a write from the root.
 #[no_mangle]
 pub extern "C" fn tree_editor_begin(
-    ed: &mut Editor,
+    ed: &mut Record,
     plens: &mut [u64],
     paths: &mut [u8],
     tlens: &mut [u64],
@@ -21,7 +21,7 @@ pub extern "C" fn tree_editor_begin(
         (lent (now (ed .entry)) (now (plens .entry)) (now (paths .entry)) (now (tlens .entry)) (now (trees .entry)) (now (order .entry))) r
         (lent (now (ed .exit)) (now (plens .exit)) (now (paths .exit)) (now (tlens .exit)) (now (trees .exit)) (now (order .exit))) ⌝ }
 {
-    let d = numbered::write::begin(*ed, plens, paths, tlens, trees, order);
+    let d = adapter_numbers::write::begin(*ed, plens, paths, tlens, trees, order);
     *ed = d.ed;
     d.code
 }
@@ -29,7 +29,7 @@ pub extern "C" fn tree_editor_begin(
 // Begins a write from the tree cached at a prefix.
 #[no_mangle]
 pub extern "C" fn tree_editor_begin_at(
-    ed: &mut Editor,
+    ed: &mut Record,
     plens: &mut [u64],
     paths: &mut [u8],
     tlens: &mut [u64],
@@ -41,15 +41,15 @@ pub extern "C" fn tree_editor_begin_at(
         (lent (now (ed .entry)) (now (plens .entry)) (now (paths .entry)) (now (tlens .entry)) (now (trees .entry)) (now (order .entry))) r
         (lent (now (ed .exit)) (now (plens .exit)) (now (paths .exit)) (now (tlens .exit)) (now (trees .exit)) (now (order .exit))) ⌝ }
 {
-    let d = numbered::write::begin_at(*ed, plens, paths, tlens, trees, order, prefix);
+    let d = adapter_numbers::write::begin_at(*ed, plens, paths, tlens, trees, order, prefix);
     *ed = d.ed;
     d.code
 }
 
-// Answers the open request with the id of the tree that was requested: 14 where it has not 20 bytes.
+// Answers the open request with the id of the tree that was requested: 255 where it has not 20 bytes.
 #[no_mangle]
 pub extern "C" fn tree_editor_answer(
-    ed: &mut Editor,
+    ed: &mut Record,
     plens: &mut [u64],
     paths: &mut [u8],
     tlens: &mut [u64],
@@ -61,16 +61,16 @@ pub extern "C" fn tree_editor_answer(
         (lent (now (ed .entry)) (now (plens .entry)) (now (paths .entry)) (now (tlens .entry)) (now (trees .entry)) (now (order .entry))) r
         (lent (now (ed .exit)) (now (plens .exit)) (now (paths .exit)) (now (tlens .exit)) (now (trees .exit)) (now (order .exit))) ⌝ }
 {
-    let d = numbered::write::answer(*ed, plens, paths, tlens, trees, order, id);
+    let d = adapter_numbers::write::answer(*ed, plens, paths, tlens, trees, order, id);
     *ed = d.ed;
     d.code
 }
 
-// Answers the open request, and reads the one that is open then to the fronts of the slices, with the number of the reading: 14 where the id has not
+// Answers the open request, and reads the one that is open then to the fronts of the slices, with the number of the reading: 255 where the id has not
 // 20 bytes, or where there is no room.
 #[no_mangle]
 pub extern "C" fn tree_editor_answer_and_request(
-    ed: &mut Editor,
+    ed: &mut Record,
     plens: &mut [u64],
     paths: &mut [u8],
     tlens: &mut [u64],
@@ -88,7 +88,7 @@ pub extern "C" fn tree_editor_answer_and_request(
         (lent (now (ed .exit)) (now (plens .exit)) (now (paths .exit)) (now (tlens .exit)) (now (trees .exit)) (now (order .exit)))
         (slices (now (out .exit)) (now (path .exit)) (now (lens .exit))) (now (next .exit)) ⌝ }
 {
-    let d = numbered::next::answer_and_request(
+    let d = adapter_numbers::next::answer_and_request(
         *ed,
         plens,
         paths,
@@ -108,7 +108,7 @@ pub extern "C" fn tree_editor_answer_and_request(
 // Fails the open request: the start tree goes back as it stands, the other taken trees are lost.
 #[no_mangle]
 pub extern "C" fn tree_editor_fail(
-    ed: &mut Editor,
+    ed: &mut Record,
     plens: &mut [u64],
     paths: &mut [u8],
     tlens: &mut [u64],
@@ -119,7 +119,7 @@ pub extern "C" fn tree_editor_fail(
         (lent (now (ed .entry)) (now (plens .entry)) (now (paths .entry)) (now (tlens .entry)) (now (trees .entry)) (now (order .entry))) r
         (lent (now (ed .exit)) (now (plens .exit)) (now (paths .exit)) (now (tlens .exit)) (now (trees .exit)) (now (order .entry))) ⌝ }
 {
-    let d = numbered::write::fail(*ed, plens, paths, tlens, trees, order);
+    let d = adapter_numbers::write::fail(*ed, plens, paths, tlens, trees, order);
     *ed = d.ed;
     d.code
 }

@@ -14,18 +14,18 @@ use Rattle.model.specs.Editor.{Held, at, Cache, treeAt}
 use Rattle.model.specs.Editor.{Editor as Model}
 use Rattle.model.specs.Formats.{sha1}
 use Rattle.model.specs.Lookup.{Looked, found, missing, refusal, pickLooked, lookOn, look, looked}
-use Rattle.runs.specs.Digits.{digits}
-use Rattle.runs.specs.Runs.{cut}
-use Rattle.runs.specs.declared.runs.Found.{Found}
-use Rattle.runs.specs.declared.runs.Found.the-variants.{At, Nothing}
-use Rattle.runs.proofs.DigitLaws.{length-digits}
-use Rattle.runs.proofs.Laws.{length-cut}
-use Rattle.slots.specs.View.{slotsOf, gather, heldAt, viewOf, asideOf, stackedOf, writeOf, editorOf, SlotIs, Used, pathOf, Laid, treeRoom}
-use Rattle.slots.specs.declared.Editor.{Editor}
-use Rattle.store.specs.Decides.{Decides}
-use Rattle.store.specs.Stored.{Stored}
-use Rattle.store.proofs.Deciding as deciding
-use Rattle.store.proofs.StoredLaws.{sha1-width, sha1-room}
+use Rattle.store_runs.specs.Digits.{digits}
+use Rattle.store_runs.specs.Runs.{cut}
+use Rattle.store_runs.specs.declared.runs.Found.{Found}
+use Rattle.store_runs.specs.declared.runs.Found.the-variants.{At, Nothing}
+use Rattle.store_runs.proofs.DigitLaws.{length-digits}
+use Rattle.store_runs.proofs.RunLaws.{length-cut}
+use Rattle.store_slots.specs.View.{slotsOf, gather, heldAt, viewOf, asideOf, stackedOf, writeOf, editorOf, SlotIs, Used, pathOf, Laid, treeRoom}
+use Rattle.store_slots.specs.declared.Record.{Record}
+use Rattle.store_check.specs.Decides.{Decides}
+use Rattle.store_check.specs.Stored.{Stored}
+use Rattle.store_check.proofs.Deciding as deciding
+use Rattle.store_check.proofs.StoredLaws.{sha1-width, sha1-room}
 use Rattle.editor.specs.Lent.{Lent, Good, viewed}
 use Rattle.editor.specs.Looks.{Looks, ReadyIs}
 use Rattle.editor.specs.declared.ready.Ready.{Ready}
@@ -108,7 +108,7 @@ no-write : (n : ℕ) (h : Held) (us ss : List Held) → n ≡ 0 → isSome (writ
 no-write zero h us ss e = refl
 no-write (suc n) h us ss e = absurd (omega (arith, e))
 
-module _ (ed : Editor) (plens paths tlens trees order : List ℕ) where
+module _ (ed : Record) (plens paths tlens trees order : List ℕ) where
   pub opened : (ed .«open» ≡ 0 → ⊥) → isSome (editorOf 20 ed plens paths tlens trees order .writing) ≡ true
   opened n = some-write (ed .«open») (heldAt 20 plens paths tlens trees (ed .asked)) (asideOf 20 ed plens paths tlens trees order) (stackedOf 20 ed plens paths tlens trees order) n
 
@@ -116,13 +116,13 @@ module _ (ed : Editor) (plens paths tlens trees order : List ℕ) where
   shut e = no-write (ed .«open») (heldAt 20 plens paths tlens trees (ed .asked)) (asideOf 20 ed plens paths tlens trees order) (stackedOf 20 ed plens paths tlens trees order) e
 
 -- the slot k is that of the prefix, and the path is not refused
-pub record Begun (ed : Editor) (plens paths tlens trees : List ℕ) (prefix path : Bytes) (k : ℕ) : Type 0 where
+pub record Begun (ed : Record) (plens paths tlens trees : List ℕ) (prefix path : Bytes) (k : ℕ) : Type 0 where
   pub used : Used ed k
   pub stands : pathOf plens paths k ≡ prefix
   pub cached : isSome (find at prefix (gather (slotsOf 20 (digits 64 (ed .hidden)) (cut plens paths) (cut tlens trees)))) ≡ true
   pub fine : refused prefix path ≡ false
 
-module _ (ed : Editor) (plens paths tlens trees : List ℕ) (prefix path : Bytes) (r : Ready) (l : Laid 20 ed plens paths tlens trees) (h : ed .hidden ≡ ed .free)
+module _ (ed : Record) (plens paths tlens trees : List ℕ) (prefix path : Bytes) (r : Ready) (l : Laid 20 ed plens paths tlens trees) (h : ed .hidden ≡ ed .free)
     (ready : (w : ℕ) (runs : List Bytes) → length runs ≡ 64 → ReadyIs w (digits 64 (ed .hidden)) (cut plens paths) runs prefix path r) where
   here : ReadyIs 20 (digits 64 (ed .hidden)) (cut plens paths) (cut tlens trees) prefix path r
   here = ready 20 (cut tlens trees) (length-cut tlens trees ∙ l .tlens-64)
@@ -163,7 +163,7 @@ front-within zero l e = omega arith
 front-within (suc n) [] e = absurd (omega (arith, e))
 front-within (suc n) (x ∷ xs) e = omega (arith, front-within n xs (omega (arith, e)))
 
-module _ (ed : Editor) (plens paths tlens trees order : List ℕ) (g : Stored sha1 ed plens paths tlens trees order) where
+module _ (ed : Record) (plens paths tlens trees order : List ℕ) (g : Stored sha1 ed plens paths tlens trees order) where
   pub trees-long : 38912 ≤ length trees
   trees-long = omega (arith, g .trees-room, sha1-room)
 

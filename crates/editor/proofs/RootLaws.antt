@@ -23,16 +23,16 @@ use Rattle.names.specs.Check.{sizeOf}
 use Rattle.names.specs.Answers.{checkedAs}
 use Rattle.names.specs.declared.tree.Checked.{Checked}
 use Rattle.names.specs.declared.tree.Checked.the-variants.{Broken}
-use Rattle.runs.specs.Digits.{digits}
-use Rattle.runs.specs.Runs.{cut}
-use Rattle.slots.specs.View.{slotsOf, gather, heldAs, heldAt, viewOf, asideOf, stackedOf, writeOf, editorOf, Laid, Holds, SameWrite, treeRoom, fresh}
-use Rattle.slots.specs.declared.Editor.{Editor}
-use Rattle.trees.proofs.Loads.{takes, as-many, as-long}
-use Rattle.walk.proofs.LandLaws.{size-none}
-use Rattle.store.specs.Decides.{Decides}
-use Rattle.store.proofs.Deciding as deciding
-use Rattle.store.proofs.StoredLaws.{sha1-width, sha1-room}
-use Rattle.editor.specs.Lent.{Lent, lent, Long, Good, viewed, Behind, Does}
+use Rattle.store_runs.specs.Digits.{digits}
+use Rattle.store_runs.specs.Runs.{cut}
+use Rattle.store_slots.specs.View.{slotsOf, gather, heldAs, heldAt, viewOf, asideOf, stackedOf, writeOf, editorOf, Laid, Holds, SameWrite, treeRoom, fresh}
+use Rattle.store_slots.specs.declared.Record.{Record}
+use Rattle.store_trees.proofs.Loads.{takes, as-many, as-long}
+use Rattle.editor_walk.proofs.LandLaws.{size-none}
+use Rattle.store_check.specs.Decides.{Decides}
+use Rattle.store_check.proofs.Deciding as deciding
+use Rattle.store_check.proofs.StoredLaws.{sha1-width, sha1-room}
+use Rattle.editor.specs.Lent.{Lent, lent, Long, Good, viewed, Behind, Still, Does}
 use Rattle.editor.specs.Roots.{Roots, Makes}
 use Rattle.editor.proofs.EditLaws.{no-writing}
 
@@ -86,12 +86,12 @@ unfolding rooted
 rooted-code E none = omega arith
 rooted-code E (some t) = refuse-code (not (fits (rootOnly t .cached))) E (rootOnly t)
 
-refuse-five : (b : Bool) (E F : Model) → (refuseIf b 5 E (record { code = 0; editor = F }) .code ≡ 0 → ⊥) → 5 ≤ refuseIf b 5 E (record { code = 0; editor = F }) .code
+refuse-five : (b : Bool) (E F : Model) → (refuseIf b 5 E (record { code = 0; editor = F }) .code ≡ 0 → ⊥) → Still (refuseIf b 5 E (record { code = 0; editor = F }) .code)
 unfolding refuseIf
 refuse-five true E F n = omega arith
 refuse-five false E F n = absurd (n refl)
 
-rooted-five : (E : Model) (o : Option Tree) → (rooted E o .code ≡ 0 → ⊥) → 5 ≤ rooted E o .code
+rooted-five : (E : Model) (o : Option Tree) → (rooted E o .code ≡ 0 → ⊥) → Still (rooted E o .code)
 unfolding rooted
 rooted-five E none n = omega arith
 rooted-five E (some t) n = refuse-five (not (fits (rootOnly t .cached))) E (rootOnly t) n
@@ -138,7 +138,7 @@ module _ (raw : Bytes) (s : Lent) (n m : ℕ) (size : sizeOf (readTree 20 raw) �
 
 -- ---- the fronts put back before what lies behind them
 
-module _ (q : Editor) (e₁ e₂ e₃ e₄ p₁ p₂ p₃ p₄ order : List ℕ) (l₁ : length p₁ ≡ 64) (l₂ : length p₂ ≡ 8192) (l₃ : length p₃ ≡ 64) (l₄ : length p₄ ≡ 38912) where
+module _ (q : Record) (e₁ e₂ e₃ e₄ p₁ p₂ p₃ p₄ order : List ℕ) (l₁ : length p₁ ≡ 64) (l₂ : length p₂ ≡ 8192) (l₃ : length p₃ ≡ 64) (l₄ : length p₄ ≡ 38912) where
   abbrev pub back : Lent
   back = lent q (p₁ ++ drop 64 e₁) (p₂ ++ drop 8192 e₂) (p₃ ++ drop 64 e₃) (p₄ ++ drop 38912 e₄) order
 
@@ -164,7 +164,7 @@ module _ (q : Editor) (e₁ e₂ e₃ e₄ p₁ p₂ p₃ p₄ order : List ℕ)
             (subst (λ (x : List ℕ). Holds sha1 q p₁ p₂ p₃ x (take 64 order)) (sym (take-at p₄ (drop 38912 e₄) (treeRoom (sha1 .width)) (l₄ ∙ sym sha1-room))) h)));
       }
 
-  pub back-behind : (ed : Editor) → Behind (lent ed e₁ e₂ e₃ e₄ order) back
+  pub back-behind : (ed : Record) → Behind (lent ed e₁ e₂ e₃ e₄ order) back
   back-behind ed =
       record {
         plens = drop-at p₁ (drop 64 e₁) 64 l₁;
@@ -176,7 +176,7 @@ module _ (q : Editor) (e₁ e₂ e₃ e₄ p₁ p₂ p₃ p₄ order : List ℕ)
 
 -- ---- the store with the root alone
 
-module _ (q : Editor) (plens paths tlens trees : List ℕ) (t : Tree) (l : Laid 20 q plens paths tlens trees) (h : q .hidden ≡ q .free) (o : SameWrite fresh q)
+module _ (q : Record) (plens paths tlens trees : List ℕ) (t : Tree) (l : Laid 20 q plens paths tlens trees) (h : q .hidden ≡ q .free) (o : SameWrite fresh q)
     (v : viewOf 20 q plens paths tlens trees ≡ alone t) (order : List ℕ) where
   pub root-view : editorOf 20 q plens paths tlens trees order ≡ rootOnly t
   unfolding rootOnly
@@ -231,7 +231,7 @@ module _ (raw : Bytes) (s : Lent) where
         go true e = r .good (eqb-true code 0 e)
         go false e =
             let c : code ≡ rooted (viewed s) (readTree 20 raw) .code = ap (λ (a : Answer). a .code) (r .is) in
-            let f : 5 ≤ rooted (viewed s) (readTree 20 raw) .code = rooted-five (viewed s) (readTree 20 raw) (λ z. eqb-false code 0 e (c ∙ z)) in
+            let f : Still (rooted (viewed s) (readTree 20 raw) .code) = rooted-five (viewed s) (readTree 20 raw) (λ z. eqb-false code 0 e (c ∙ z)) in
             subst Good (sym (r .kept (omega (arith, c, f)))) g
 
     pub sets-root : Good s → isSome (viewed s .writing) ≡ false → Does (setRoot sha1 raw) s code q

@@ -6,20 +6,20 @@ use lib.ListN.{length, take, drop}
 use Rattle.model.specs.Calls.{Answer}
 use Rattle.model.specs.Editor.{Editor as Model}
 use Rattle.model.specs.Formats.{sha1}
-use Rattle.slots.specs.View.{treeRoom, editorOf}
-use Rattle.slots.specs.declared.Editor.{Editor}
-use Rattle.store.specs.Stored.{Stored}
+use Rattle.store_slots.specs.View.{treeRoom, editorOf}
+use Rattle.store_slots.specs.declared.Record.{Record}
+use Rattle.store_check.specs.Stored.{Stored}
 
 -- the record, and the slices as they are lent, which may be longer than a store
 pub record Lent : Type 0 where
-  pub ed : Editor
+  pub ed : Record
   pub plens : List ℕ
   pub paths : List ℕ
   pub tlens : List ℕ
   pub trees : List ℕ
   pub order : List ℕ
 
-abbrev pub lent : Editor → List ℕ → List ℕ → List ℕ → List ℕ → List ℕ → Lent
+abbrev pub lent : Record → List ℕ → List ℕ → List ℕ → List ℕ → List ℕ → Lent
 lent ed plens paths tlens trees order = record { ed = ed; plens = plens; paths = paths; tlens = tlens; trees = trees; order = order }
 
 -- the slices are as long as a store
@@ -46,8 +46,12 @@ pub record Behind (s q : Lent) : Type 0 where
   pub trees : drop (treeRoom 20) (q .trees) ≡ drop (treeRoom 20) (s .trees)
   pub order : drop 64 (q .order) ≡ drop 64 (s .order)
 
--- A call does what f says of the editor that is held: 13 is for a store that holds none, and the numbers from 5 on leave each lent byte.
+-- nothing has changed with this number
+abbrev pub Still : ℕ → Type 0
+Still c = 5 ≤ c
+
+-- A call does what f says of the editor that is held: 13 is for a store that holds none, and where nothing changes each lent byte is as it was.
 pub record Does (f : Model → Answer) (s : Lent) (code : ℕ) (q : Lent) : Type 0 where
   pub refused : code ≡ 13 → (Good s → ⊥) × (q ≡ s)
   pub done : (code ≡ 13 → ⊥) → Good s × (record { code = code; editor = viewed q } ≡ f (viewed s)) × Good q × Behind s q
-  pub kept : 5 ≤ code → q ≡ s
+  pub kept : Still code → q ≡ s

@@ -10,8 +10,8 @@ use Rattle.model.specs.Map.{find, isSome}
 use Rattle.model.specs.Paths.{refused}
 use Rattle.model.specs.Editor.{at}
 use Rattle.model.specs.Lookup as model
-use Rattle.runs.specs.declared.runs.Found.the-variants.{At, Nothing}
-use Rattle.slots.specs.View.{slotsOf, gather, SlotIs}
+use Rattle.store_runs.specs.declared.runs.Found.the-variants.{At, Nothing}
+use Rattle.store_slots.specs.View.{slotsOf, gather, SlotIs}
 use Rattle.editor.specs.Lent.{Lent, Good, viewed}
 use Rattle.editor.specs.declared.cursor.Cursor.{Cursor}
 use Rattle.editor.specs.declared.ready.Ready.{Ready}

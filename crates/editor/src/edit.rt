@@ -1,33 +1,31 @@
 // Edits of a lent store, below a prefix.
 ghost use mathlib.Core.Path.{_≡_};
-ghost use mathlib.Core.Bool.{true, false};
-ghost use mathlib.Core.List.{List, []};
+ghost use mathlib.Core.Bool.{true};
+ghost use mathlib.Core.List.{List};
 ghost use Prim.Native.Nat.{ℕ};
 ghost use Rattle.model.specs.Formats.{sha1};
 ghost use Rattle.model.specs.Valid.{valid};
 ghost use Rattle.model.specs.Calls as model;
-ghost use Rattle.model.specs.Walk as walk;
-ghost use Rattle.names.specs.Answers.{asMode};
-ghost use Rattle.edits.specs.Ids.{idBytes};
-ghost use Rattle.slots.specs.View.{Laid, viewOf, editorOf};
-ghost use Rattle.change.specs.Steps.{editorAt};
-ghost use Rattle.edits.specs.Answers.{codeNumber};
-ghost use Rattle.edits.specs.Edits.{asEdit};
-ghost use Rattle.edits.specs.Objects.{tableOf};
+ghost use Rattle.store_slots.specs.View.{Laid, viewOf, editorOf};
+ghost use Rattle.editor_walk.specs.Steps.{editorAt};
+ghost use Rattle.editor_terms.specs.Answers.{codeNumber};
+ghost use Rattle.editor_terms.specs.Edits.{asEdit};
+ghost use Rattle.editor_terms.specs.Objects.{tableOf};
 ghost use Rattle.editor.specs.Lent.{lent, Does};
 ghost use Rattle.editor.specs.Edited.{EditedAs};
 use crate::ready::Ready;
-use change::pass::Answer;
-use edits::code::Code;
-use edits::edit::Edit;
-use edits::edit::RemoveKind;
-use edits::id::Id;
-use names::mode::EntryKind;
-use slots::Editor;
+use editor_terms::code::Code;
+use editor_terms::edit::Edit;
+use editor_walk::apply::Answer;
+use names::limits::FULL;
+use names::limits::PATH_BYTES;
+use names::limits::SLOTS;
+use names::limits::TREE_BYTES;
+use store_slots::Record;
 
 // An edit at a path below a prefix, over slices as long as a store, which hold an editor.
 fn edit_held(
-    ed: Editor,
+    ed: Record,
     plens: &mut [u64],
     paths: &mut [u8],
     tlens: &mut [u64],
@@ -38,12 +36,12 @@ fn edit_held(
     prefix: &[u8],
     path: &[u8],
     edit: Edit,
-    deep: bool,
+    opening: bool,
 ) -> Answer
     requires { ⌜ Laid 20 ed (now plens) (now paths) (now tlens) (now trees) × (ed .«open» ≡ 0 → ed .hidden ≡ ed .free)
         × (ed .«open» ≡ 0 → valid sha1 (editorAt (viewOf 20 ed (now plens) (now paths) (now tlens) (now trees))) ≡ true) ⌝ }
     ensures { λ a. ⌜ ((order : List ℕ) → EditedAs ed (now (plens .entry)) (now (paths .entry)) (now (tlens .entry)) (now (trees .entry)) order
-        (model.edited sha1 (tableOf (now (ids .entry)) (now (ends .entry)) (now (raws .entry))) (asEdit edit) «deep» (now (prefix .entry)) (now (path .entry))
+        (model.edited sha1 (tableOf (now (ids .entry)) (now (ends .entry)) (now (raws .entry))) (asEdit edit) opening (now (prefix .entry)) (now (path .entry))
         (editorOf 20 ed (now (plens .entry)) (now (paths .entry)) (now (tlens .entry)) (now (trees .entry)) order)) a (now (plens .exit)) (now (paths .exit)) (now (tlens .exit)) (now (trees .exit))) ⌝ }
 {
     if ed.open != 0 {
@@ -52,7 +50,7 @@ fn edit_held(
             ed,
         };
     }
-    if !edits::table::is_good(ids, ends, raws) {
+    if !editor_terms::table::is_good(ids, ends, raws) {
         return Answer {
             code: Code::BadTable,
             ed,
@@ -68,9 +66,9 @@ fn edit_held(
             ed,
         },
         Ready::In(slot) => {
-            let mut buf = [0u8; 1280];
-            let n = edits::path::put_full(&mut buf, prefix, path);
-            change::pass::settle(
+            let mut buf = [0u8; FULL];
+            let n = names::full::put_full(&mut buf, prefix, path);
+            editor_walk::apply::settle(
                 ed,
                 plens,
                 paths,
@@ -82,16 +80,16 @@ fn edit_held(
                 &buf[..n],
                 path,
                 edit,
-                deep,
+                opening,
                 slot,
             )
         }
     }
 }
 
-// An edit, or with `deep` the opening of a cursor, at a path below a prefix.
-pub fn edited(
-    ed: Editor,
+// An edit, or with `opening` the opening of a cursor, at a path below a prefix.
+pub fn edit(
+    ed: Record,
     plens: &mut [u64],
     paths: &mut [u8],
     tlens: &mut [u64],
@@ -103,13 +101,13 @@ pub fn edited(
     prefix: &[u8],
     path: &[u8],
     edit: Edit,
-    deep: bool,
+    opening: bool,
 ) -> Answer
-    ensures { λ a. ⌜ Does (model.edited sha1 (tableOf (now (ids .entry)) (now (ends .entry)) (now (raws .entry))) (asEdit edit) «deep» (now (prefix .entry)) (now (path .entry)))
+    ensures { λ a. ⌜ Does (model.edited sha1 (tableOf (now (ids .entry)) (now (ends .entry)) (now (raws .entry))) (asEdit edit) opening (now (prefix .entry)) (now (path .entry)))
         (lent ed (now (plens .entry)) (now (paths .entry)) (now (tlens .entry)) (now (trees .entry)) (now (order .entry))) (codeNumber (a .code))
         (lent (a .ed) (now (plens .exit)) (now (paths .exit)) (now (tlens .exit)) (now (trees .exit)) (now (order .exit))) ⌝ }
 {
-    if !store::holds::holds(ed, plens, paths, tlens, trees, order) {
+    if !store_check::holds::holds(ed, plens, paths, tlens, trees, order) {
         return Answer {
             code: Code::StoreDamaged,
             ed,
@@ -117,123 +115,16 @@ pub fn edited(
     }
     edit_held(
         ed,
-        &mut plens[..64],
-        &mut paths[..8192],
-        &mut tlens[..64],
-        &mut trees[..38912],
+        &mut plens[..SLOTS],
+        &mut paths[..PATH_BYTES],
+        &mut tlens[..SLOTS],
+        &mut trees[..TREE_BYTES],
         ids,
         ends,
         raws,
         prefix,
         path,
         edit,
-        deep,
-    )
-}
-
-// Sets the entry at a path.
-pub fn upsert(
-    ed: Editor,
-    plens: &mut [u64],
-    paths: &mut [u8],
-    tlens: &mut [u64],
-    trees: &mut [u8],
-    order: &[u64],
-    ids: &[u8],
-    ends: &[u32],
-    raws: &[u8],
-    path: &[u8],
-    kind: EntryKind,
-    id: Id,
-) -> Answer
-    ensures { λ a. ⌜ Does (model.edited sha1 (tableOf (now (ids .entry)) (now (ends .entry)) (now (raws .entry))) (walk.upsert (asMode kind) (idBytes id)) false [] (now (path .entry)))
-        (lent ed (now (plens .entry)) (now (paths .entry)) (now (tlens .entry)) (now (trees .entry)) (now (order .entry))) (codeNumber (a .code))
-        (lent (a .ed) (now (plens .exit)) (now (paths .exit)) (now (tlens .exit)) (now (trees .exit)) (now (order .exit))) ⌝ }
-{
-    let edit = Edit::Upsert(kind, id);
-    edited(
-        ed,
-        plens,
-        paths,
-        tlens,
-        trees,
-        order,
-        ids,
-        ends,
-        raws,
-        b"",
-        path,
-        edit,
-        false,
-    )
-}
-
-// Removes the entry at a path.
-pub fn remove(
-    ed: Editor,
-    plens: &mut [u64],
-    paths: &mut [u8],
-    tlens: &mut [u64],
-    trees: &mut [u8],
-    order: &[u64],
-    ids: &[u8],
-    ends: &[u32],
-    raws: &[u8],
-    path: &[u8],
-) -> Answer
-    ensures { λ a. ⌜ Does (model.edited sha1 (tableOf (now (ids .entry)) (now (ends .entry)) (now (raws .entry))) (walk.remove walk.ANY) false [] (now (path .entry)))
-        (lent ed (now (plens .entry)) (now (paths .entry)) (now (tlens .entry)) (now (trees .entry)) (now (order .entry))) (codeNumber (a .code))
-        (lent (a .ed) (now (plens .exit)) (now (paths .exit)) (now (tlens .exit)) (now (trees .exit)) (now (order .exit))) ⌝ }
-{
-    let edit = Edit::Remove(RemoveKind::Any);
-    edited(
-        ed,
-        plens,
-        paths,
-        tlens,
-        trees,
-        order,
-        ids,
-        ends,
-        raws,
-        b"",
-        path,
-        edit,
-        false,
-    )
-}
-
-// Removes the entry at a path, which must not be a tree.
-pub fn remove_leaf(
-    ed: Editor,
-    plens: &mut [u64],
-    paths: &mut [u8],
-    tlens: &mut [u64],
-    trees: &mut [u8],
-    order: &[u64],
-    ids: &[u8],
-    ends: &[u32],
-    raws: &[u8],
-    path: &[u8],
-) -> Answer
-    ensures { λ a. ⌜ Does (model.edited sha1 (tableOf (now (ids .entry)) (now (ends .entry)) (now (raws .entry))) (walk.remove walk.LEAF) false [] (now (path .entry)))
-        (lent ed (now (plens .entry)) (now (paths .entry)) (now (tlens .entry)) (now (trees .entry)) (now (order .entry))) (codeNumber (a .code))
-        (lent (a .ed) (now (plens .exit)) (now (paths .exit)) (now (tlens .exit)) (now (trees .exit)) (now (order .exit))) ⌝ }
-{
-    let edit = Edit::Remove(RemoveKind::Leaf);
-    edited(
-        ed,
-        plens,
-        paths,
-        tlens,
-        trees,
-        order,
-        ids,
-        ends,
-        raws,
-        b"",
-        path,
-        edit,
-        false,
+        opening,
     )
 }

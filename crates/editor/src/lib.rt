@@ -1,5 +1,4 @@
 // The calls of an editor over a lent store: each is refused in the order of the numbers, or made.
-pub mod below;
 pub mod cursor;
 pub mod edit;
 pub mod look;

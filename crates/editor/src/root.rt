@@ -9,20 +9,21 @@ ghost use Rattle.model.specs.Tree.{Tree};
 ghost use Rattle.model.specs.Calls.{rootOnly, setRoot};
 ghost use Rattle.model.specs.Formats.{sha1};
 ghost use Rattle.names.specs.Check.{sizeOf};
-ghost use Rattle.slots.specs.View.{treeRoom, editorOf, Holds};
-ghost use Rattle.edits.specs.Answers.{codeNumber};
-ghost use Rattle.store.specs.Decides.{Decides};
+ghost use Rattle.store_slots.specs.View.{treeRoom, editorOf, Holds};
+ghost use Rattle.editor_terms.specs.Answers.{codeNumber};
+ghost use Rattle.store_check.specs.Decides.{Decides};
 ghost use Rattle.editor.specs.Lent.{lent, Long, Does};
 ghost use Rattle.editor.specs.Roots.{Roots, Makes};
-use edits::code::Code;
+use editor_terms::code::Code;
+use editor_walk::apply::Answer;
+use names::limits::ENTRIES;
+use names::limits::NAME_BYTES;
+use names::limits::PATH_BYTES;
+use names::limits::SLOTS;
+use names::limits::TREE_BYTES;
+use names::limits::WIDTH;
 use names::tree::Checked;
-use slots::Editor;
-
-// What a call that may change the store answers: its number, and the record then.
-pub struct Answer {
-    pub code: Code,
-    pub ed: Editor,
-}
+use store_slots::Record;
 
 // Caches a well-formed raw tree with so many entries and name bytes as the root, and nothing else, in slices as long as a store.
 fn root_only(
@@ -33,22 +34,22 @@ fn root_only(
     raw: &[u8],
     entries: usize,
     name_bytes: usize,
-) -> Editor
+) -> Record
     requires { ⌜ (length (now plens) ≡ 64) × (length (now paths) ≡ 8192) × (length (now tlens) ≡ 64) × (length (now trees) ≡ treeRoom 20)
         × (sizeOf (readTree 20 (now raw)) ≡ some (record { entries = entries; bytes = «name_bytes» })) × (entries ≤ 1024) × («name_bytes» ≤ 16384) ⌝ }
     ensures { λ q. ⌜ ((t : Tree) → readTree 20 (now (raw .entry)) ≡ some t → (order : List ℕ) → length order ≡ 64
         → Holds sha1 q (now (plens .exit)) (now (paths .exit)) (now (tlens .exit)) (now (trees .exit)) order
         × (editorOf 20 q (now (plens .exit)) (now (paths .exit)) (now (tlens .exit)) (now (trees .exit)) order ≡ rootOnly t)) ⌝ }
 {
-    let none = slots::drop_all(plens, paths, tlens, trees, 20);
+    let none = store_slots::drop_all(plens, paths, tlens, trees, WIDTH);
     let root = names::part::front(raw, 0);
-    let one = trees::load::load(
+    let one = store_trees::load::load(
         none,
         plens,
         paths,
         tlens,
         trees,
-        20,
+        WIDTH,
         root,
         raw,
         entries,
@@ -59,7 +60,7 @@ fn root_only(
 
 // A new root in slices that are long enough: 12, then 5.
 fn rooted(
-    ed: Editor,
+    ed: Record,
     plens: &mut [u64],
     paths: &mut [u8],
     tlens: &mut [u64],
@@ -71,7 +72,7 @@ fn rooted(
         → Roots (now (raw .entry)) (lent ed (now (plens .entry)) (now (paths .entry)) (now (tlens .entry)) (now (trees .entry)) order) (codeNumber (r .code))
         (lent (r .ed) (now (plens .exit)) (now (paths .exit)) (now (tlens .exit)) (now (trees .exit)) order)) ⌝ }
 {
-    match names::tree::well_formed(raw, 20) {
+    match names::tree::well_formed(raw, WIDTH) {
         Checked::Broken => Answer {
             code: Code::BadRoot,
             ed,
@@ -80,23 +81,23 @@ fn rooted(
             entries,
             name_bytes,
         } => {
-            if 1024 < entries {
+            if ENTRIES < entries {
                 return Answer {
                     code: Code::NoRoom,
                     ed,
                 };
             }
-            if 16384 < name_bytes {
+            if NAME_BYTES < name_bytes {
                 return Answer {
                     code: Code::NoRoom,
                     ed,
                 };
             }
             let q = root_only(
-                &mut plens[..64],
-                &mut paths[..8192],
-                &mut tlens[..64],
-                &mut trees[..38912],
+                &mut plens[..SLOTS],
+                &mut paths[..PATH_BYTES],
+                &mut tlens[..SLOTS],
+                &mut trees[..TREE_BYTES],
                 raw,
                 entries,
                 name_bytes,
@@ -111,21 +112,21 @@ fn rooted(
 
 // Whether the slices are as long as a store.
 fn long_enough(plens: &[u64], paths: &[u8], tlens: &[u64], trees: &[u8], order: &[u64]) -> bool
-    ensures { λ b. ⌜ ((ed : Editor) → Decides (Long (lent ed (now (plens .entry)) (now (paths .entry)) (now (tlens .entry)) (now (trees .entry)) (now (order .entry)))) b) ⌝ }
+    ensures { λ b. ⌜ ((ed : Record) → Decides (Long (lent ed (now (plens .entry)) (now (paths .entry)) (now (tlens .entry)) (now (trees .entry)) (now (order .entry)))) b) ⌝ }
 {
-    if plens.len() < 64 {
+    if plens.len() < SLOTS {
         return false;
     }
-    if paths.len() < 8192 {
+    if paths.len() < PATH_BYTES {
         return false;
     }
-    if tlens.len() < 64 {
+    if tlens.len() < SLOTS {
         return false;
     }
-    if trees.len() < 38912 {
+    if trees.len() < TREE_BYTES {
         return false;
     }
-    if order.len() < 64 {
+    if order.len() < SLOTS {
         return false;
     }
     true
@@ -133,7 +134,7 @@ fn long_enough(plens: &[u64], paths: &[u8], tlens: &[u64], trees: &[u8], order: 
 
 // Makes an editor with this root. Looks at no earlier content of the store.
 pub fn new(
-    ed: Editor,
+    ed: Record,
     plens: &mut [u64],
     paths: &mut [u8],
     tlens: &mut [u64],
@@ -155,7 +156,7 @@ pub fn new(
 
 // Sets the root, and drops every cached tree.
 pub fn set_root(
-    ed: Editor,
+    ed: Record,
     plens: &mut [u64],
     paths: &mut [u8],
     tlens: &mut [u64],
@@ -166,7 +167,7 @@ pub fn set_root(
     ensures { λ r. ⌜ Does (setRoot sha1 (now (raw .entry))) (lent ed (now (plens .entry)) (now (paths .entry)) (now (tlens .entry)) (now (trees .entry)) (now (order .entry))) (codeNumber (r .code))
         (lent (r .ed) (now (plens .exit)) (now (paths .exit)) (now (tlens .exit)) (now (trees .exit)) (now (order .entry))) ⌝ }
 {
-    if !store::holds::holds(ed, plens, paths, tlens, trees, order) {
+    if !store_check::holds::holds(ed, plens, paths, tlens, trees, order) {
         return Answer {
             code: Code::StoreDamaged,
             ed,

@@ -17,8 +17,7 @@ use Rattle.model.specs.Raw.{more, ifGood}
 use Rattle.model.proofs.Basics.{none-some, some-inj, and-left, and-right, and-false}
 use Rattle.model.proofs.ByteLaws.{same-eq}
 use Rattle.names.specs.Answers.{asOrdering}
-use Rattle.names.specs.Check.{TreeSize, sizeOf, isLess, namesOf, treeAmong, TwinIs, wellAfter, plain, besides, wellPast, FitsIs, checkPast, Checking}
-use Rattle.names.specs.Compact.{Wide}
+use Rattle.names.specs.Check.{TreeSize, sizeOf, isLess, namesOf, treeAmong, TwinIs, wellAfter, plain, besides, wellPast, FitsIs, checkPast, Checking, Wide}
 use Rattle.names.specs.Standings.{StandsIn, StandsAs}
 use Rattle.names.specs.declared.neighbour.Standing.{Standing}
 use Rattle.names.specs.declared.neighbour.Standing.the-variants.{Apart, Within, Wrong}

@@ -4,9 +4,6 @@ use borrow.Author.Needs.{needs}
 use Rattle.adapter.proofs.read.tree_editor_holds.Statement.{statement}
 use Rattle.adapter.proofs.read.tree_editor_holds.Tie as tie
 
-holds-requires : tie.Need-holds-requires
-holds-requires c κs = search needs
-
 returns : tie.Need-returns
 returns c = tells-one _ _ (c .before .holds .ensures) (c .if1 .taken)
 
@@ -14,4 +11,4 @@ returns-2 : tie.Need-returns-2
 returns-2 c = tells-none _ _ (c .before .holds .ensures) (c .if1 .left)
 
 pub tree-editor-holds-spec : {M : Type 1} → statement M
-tree-editor-holds-spec = tie.close (tie.spec holds-requires returns returns-2)
+tree-editor-holds-spec = tie.close (tie.spec (λ c κs. search needs) returns returns-2)

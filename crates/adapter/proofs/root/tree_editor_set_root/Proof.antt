@@ -1,5 +1,6 @@
--- `adapter::root::tree_editor_set_root` meets its contract: a walk of its MIR. The borrow of the record is opened, the record is copied out, `set_root` is called with what is owned of the other parameters,
--- the record that it returns is stored back, and the borrow is closed. All that the proof knows of the callee is that it meets its contract. Assumes nothing.
+-- `adapter::root::tree_editor_set_root` meets its contract: its record is read out, given to `adapter_numbers::root::set_root`, and what comes back is stored. A walk of its code, written by tools/thin.py: the borrow of
+-- the record is opened, the record is copied out, the callee is called with what is owned of the other parameters, the record that it returns is stored back, and the borrow is closed. Of the callee
+-- only its contract is known. Assumes nothing.
 use mathlib.Core.Path.{refl, ap}
 use Prim.Native.Nat.{ℕ}
 use mathlib.Core.List.{[], _∷_, List}
@@ -31,8 +32,6 @@ use denote.Slice.{sliceVal, MutSlice, ShrSlice, slice-vals, mut-slice-tells, shr
 use denote.Signature.{plain}
 use denote.Steps.{only, opens, closes, owned, peeks, heard}
 use denote.Struct.Steps.{spelt}
-use denote.Struct.Laws as SL
-use denote.Enum.Laws as EL
 use denote.Triple.Entry.{onEntry}
 use denote.Triple.Spec.{Meets, tripleOf}
 use denote.Triple.Statement.{Contract, Triple}
@@ -40,17 +39,18 @@ use denote.Triple.Call.{calls-at}
 use denote.Triple.Clauses.{ensured, lasts}
 use denote.Triple.Table.{entered, cited}
 use denote.Triple.Walked.{says, Stays, stay-ref, walkOf, goes-ref, Walks, ends-at, walked, walk-meets}
-use Rattle.inplace.proofs.Said.{restOf, saids, saids-go, with-emp}
-use Rattle.slots.specs.declared.Editor.{Editor}
-use Rattle.slots.proofs.Editor as EditorT
-use Rattle.slots.proofs.Editor.Laws as EditorL
-use Rattle.numbered.specs.declared.Numbered.{Numbered}
-use Rattle.numbered.proofs.Numbered as NumberedT
-use Rattle.numbered.proofs.Numbered.Laws as NumberedL
-use Rattle.numbered.proofs.root.set_root as callee
-use Rattle.numbered.proofs.root.set_root.Symbol as callee-def
-use Rattle.numbered.proofs.root.set_root.Symbol.{name as #numbered·root·set-root}
-use Rattle.numbered.proofs.root.set_root.Met as callee-thm
+use denote.Struct.Laws as SL
+use Rattle.adapter.proofs.Said.{restOf, saids, saids-go, with-emp}
+use Rattle.store_slots.specs.declared.Record.{Record}
+use Rattle.store_slots.proofs.Record as RecordT
+use Rattle.store_slots.proofs.Record.Laws as RecordL
+use Rattle.adapter_numbers.specs.declared.Numbered.{Numbered}
+use Rattle.adapter_numbers.proofs.Numbered as NumberedT
+use Rattle.adapter_numbers.proofs.Numbered.Laws as NumberedL
+use Rattle.adapter_numbers.proofs.root.set_root as callee
+use Rattle.adapter_numbers.proofs.root.set_root.Symbol as callee-def
+use Rattle.adapter_numbers.proofs.root.set_root.Symbol.{name as #adapter_numbers·root·set-root}
+use Rattle.adapter_numbers.proofs.root.set_root.Met as callee-thm
 use Rattle.adapter.proofs.root.tree_editor_set_root.Key.{name as #adapter·tree-editor-set-root}
 use Rattle.adapter.proofs.root.tree_editor_set_root as self
 use Rattle.adapter.proofs.root.tree_editor_set_root.Statement as stated
@@ -60,19 +60,19 @@ use Rattle.model.specs.Formats.{sha1}
 use Rattle.editor.specs.Lent.{lent, Does}
 
 abbrev stayed : Stays (self.ended .signature .params) (self.ended .kept)
-stayed = (stay-ref (0 ∷ []) tt (plain (λ _. EditorT.the-row)), saids (restOf (self.ended .signature .params)) (self.ended .kept .1))
+stayed = (stay-ref (0 ∷ []) tt (plain (λ _. RecordT.the-row)), saids (restOf (self.ended .signature .params)) (self.ended .kept .1))
 
 abbrev Callee : {M : Type 1} (𝓤 : URA M) (H : Heap 𝓤) (A : Atoms 𝓤) (at-mem : Memory → SProp 𝓤) (run : Routine → Fun 𝓤) → Contract 𝓤
 Callee 𝓤 H A at-mem run = tripleOf 𝓤 H A callee.signature (callee.spec 𝓤 H A at-mem run)
 
-abbrev mach : Editor → Val
-mach = SL.val EditorT.the-type EditorL.the-laws
+abbrev mach : Record → Val
+mach = SL.val RecordT.the-type RecordL.the-laws
 
 abbrev Lasts : Type 0
 Lasts = (Unit {0} × (List ℕ × (List ℕ × (List ℕ × (List ℕ × (Unit {0} × (Unit {0} × Unit {0})))))))
 
-module _ {M : Type 1} (𝓤 : URA M) (H : Heap 𝓤) (A : Atoms 𝓤) (W : Given 𝓤 H A) (at-mem : Memory → SProp 𝓤) (run : Routine → Fun 𝓤) (κ κ1 κ2 κ3 κ4 κ5 κ6 : Lft) (q q1 q2 q3 q4 q5 q6 : Share) (b o : ℕ) (γ : GName) (h : Editor) (plens· : RefT (List ℕ)) (paths· : RefT (List ℕ)) (tlens· : RefT (List ℕ)) (trees· : RefT (List ℕ)) (order· : RefT (List ℕ)) (raw· : RefT (List ℕ)) (bounds : AllOutlive _ (self.signature .outlives) (κ, (κ1, (κ2, (κ3, (κ4, (κ5, (κ6, tt)))))))) (cbounds : AllOutlive _ (callee.signature .outlives) (κ1, (κ2, (κ3, (κ4, (κ5, (κ6, tt))))))) where
-  abbrev x : RefT Editor
+module _ {M : Type 1} (𝓤 : URA M) (H : Heap 𝓤) (A : Atoms 𝓤) (W : Given 𝓤 H A) (at-mem : Memory → SProp 𝓤) (run : Routine → Fun 𝓤) (κ κ1 κ2 κ3 κ4 κ5 κ6 : Lft) (q q1 q2 q3 q4 q5 q6 : Share) (b o : ℕ) (γ : GName) (h : Record) (plens· : RefT (List ℕ)) (paths· : RefT (List ℕ)) (tlens· : RefT (List ℕ)) (trees· : RefT (List ℕ)) (order· : RefT (List ℕ)) (raw· : RefT (List ℕ)) (bounds : AllOutlive _ (self.signature .outlives) (κ, (κ1, (κ2, (κ3, (κ4, (κ5, (κ6, tt)))))))) (cbounds : AllOutlive _ (callee.signature .outlives) (κ1, (κ2, (κ3, (κ4, (κ5, (κ6, tt))))))) where
+  abbrev x : RefT Record
   x = record { ptr = (b, o); name = γ; now = h }
 
   -- what the callee ensures
@@ -85,20 +85,20 @@ module _ {M : Type 1} (𝓤 : URA M) (H : Heap 𝓤) (A : Atoms 𝓤) (W : Given
   abbrev to-callee : Callee 𝓤 H A at-mem run .Ghost
   to-callee = (((κ1, (κ2, (κ3, (κ4, (κ5, (κ6, tt)))))), (q1, (q2, (q3, (q4, (q5, (q6, tt)))))), cbounds, (h, (plens·, (paths·, (tlens·, (trees·, (order·, (raw·, tt))))))), (mach h ∷ [], (sliceVal (ptr plens·) (length (now plens·)) ∷ [], (sliceVal (ptr paths·) (length (now paths·)) ∷ [], (sliceVal (ptr tlens·) (length (now tlens·)) ∷ [], (sliceVal (ptr trees·) (length (now trees·)) ∷ [], (sliceVal (ptr order·) (length (now order·)) ∷ [], (sliceVal (ptr raw·) (length (now raw·)) ∷ [], tt)))))))), tt)
 
-  goes : ent 𝓤 (sep 𝓤 (sep 𝓤 (A .lft κ1 q1) (sep 𝓤 (A .lft κ2 q2) (sep 𝓤 (A .lft κ3 q3) (sep 𝓤 (A .lft κ4 q4) (sep 𝓤 (A .lft κ5 q5) (sep 𝓤 (A .lft κ6 q6) (sem 𝓤 H A ftrue))))))) (sep 𝓤 (sem 𝓤 H A (EditorT.the-row .own h (mach h ∷ []))) (sem 𝓤 H A (owns ((MutSlice (named 1) κ1 u64) ∷ (MutSlice (named 2) κ2 u8) ∷ (MutSlice (named 3) κ3 u64) ∷ (MutSlice (named 4) κ4 u8) ∷ (ShrSlice (named 5) κ5 u64) ∷ (ShrSlice (named 6) κ6 u8) ∷ []) (plens·, (paths·, (tlens·, (trees·, (order·, (raw·, tt)))))) (sliceVal (ptr plens·) (length (now plens·)) ∷ [], (sliceVal (ptr paths·) (length (now paths·)) ∷ [], (sliceVal (ptr tlens·) (length (now tlens·)) ∷ [], (sliceVal (ptr trees·) (length (now trees·)) ∷ [], (sliceVal (ptr order·) (length (now order·)) ∷ [], (sliceVal (ptr raw·) (length (now raw·)) ∷ [], tt)))))))))) (Callee 𝓤 H A at-mem run .pre to-callee)
-  goes = qed W ((‵ (flft κ1 q1) ⊛ ‵ (flft κ2 q2) ⊛ ‵ (flft κ3 q3) ⊛ ‵ (flft κ4 q4) ⊛ ‵ (flft κ5 q5) ⊛ ‵ (flft κ6 q6) ⊛ ‵ ftrue) ∷ ‵ (EditorT.the-row .own h (mach h ∷ [])) ∷ ‵ (owns ((MutSlice (named 1) κ1 u64) ∷ (MutSlice (named 2) κ2 u8) ∷ (MutSlice (named 3) κ3 u64) ∷ (MutSlice (named 4) κ4 u8) ∷ (ShrSlice (named 5) κ5 u64) ∷ (ShrSlice (named 6) κ6 u8) ∷ []) (plens·, (paths·, (tlens·, (trees·, (order·, (raw·, tt)))))) (sliceVal (ptr plens·) (length (now plens·)) ∷ [], (sliceVal (ptr paths·) (length (now paths·)) ∷ [], (sliceVal (ptr tlens·) (length (now tlens·)) ∷ [], (sliceVal (ptr trees·) (length (now trees·)) ∷ [], (sliceVal (ptr order·) (length (now order·)) ∷ [], (sliceVal (ptr raw·) (length (now raw·)) ∷ [], tt))))))) ∷ []) ∵ suffices ! _ (with-emp 𝓤 (onEntry 𝓤 H A callee.signature (κ1, (κ2, (κ3, (κ4, (κ5, (κ6, tt)))))) (q1, (q2, (q3, (q4, (q5, (q6, tt)))))) (h, (plens·, (paths·, (tlens·, (trees·, (order·, (raw·, tt))))))) (mach h ∷ [], (sliceVal (ptr plens·) (length (now plens·)) ∷ [], (sliceVal (ptr paths·) (length (now paths·)) ∷ [], (sliceVal (ptr tlens·) (length (now tlens·)) ∷ [], (sliceVal (ptr trees·) (length (now trees·)) ∷ [], (sliceVal (ptr order·) (length (now order·)) ∷ [], (sliceVal (ptr raw·) (length (now raw·)) ∷ [], tt))))))))) $ frame ! $ fjoin ! $ done !
+  goes : ent 𝓤 (sep 𝓤 (sep 𝓤 (A .lft κ1 q1) (sep 𝓤 (A .lft κ2 q2) (sep 𝓤 (A .lft κ3 q3) (sep 𝓤 (A .lft κ4 q4) (sep 𝓤 (A .lft κ5 q5) (sep 𝓤 (A .lft κ6 q6) (sem 𝓤 H A ftrue))))))) (sep 𝓤 (sem 𝓤 H A (RecordT.the-row .own h (mach h ∷ []))) (sem 𝓤 H A (owns ((MutSlice (named 1) κ1 u64) ∷ (MutSlice (named 2) κ2 u8) ∷ (MutSlice (named 3) κ3 u64) ∷ (MutSlice (named 4) κ4 u8) ∷ (ShrSlice (named 5) κ5 u64) ∷ (ShrSlice (named 6) κ6 u8) ∷ []) (plens·, (paths·, (tlens·, (trees·, (order·, (raw·, tt)))))) (sliceVal (ptr plens·) (length (now plens·)) ∷ [], (sliceVal (ptr paths·) (length (now paths·)) ∷ [], (sliceVal (ptr tlens·) (length (now tlens·)) ∷ [], (sliceVal (ptr trees·) (length (now trees·)) ∷ [], (sliceVal (ptr order·) (length (now order·)) ∷ [], (sliceVal (ptr raw·) (length (now raw·)) ∷ [], tt)))))))))) (Callee 𝓤 H A at-mem run .pre to-callee)
+  goes = qed W ((‵ (flft κ1 q1) ⊛ ‵ (flft κ2 q2) ⊛ ‵ (flft κ3 q3) ⊛ ‵ (flft κ4 q4) ⊛ ‵ (flft κ5 q5) ⊛ ‵ (flft κ6 q6) ⊛ ‵ ftrue) ∷ ‵ (RecordT.the-row .own h (mach h ∷ [])) ∷ ‵ (owns ((MutSlice (named 1) κ1 u64) ∷ (MutSlice (named 2) κ2 u8) ∷ (MutSlice (named 3) κ3 u64) ∷ (MutSlice (named 4) κ4 u8) ∷ (ShrSlice (named 5) κ5 u64) ∷ (ShrSlice (named 6) κ6 u8) ∷ []) (plens·, (paths·, (tlens·, (trees·, (order·, (raw·, tt)))))) (sliceVal (ptr plens·) (length (now plens·)) ∷ [], (sliceVal (ptr paths·) (length (now paths·)) ∷ [], (sliceVal (ptr tlens·) (length (now tlens·)) ∷ [], (sliceVal (ptr trees·) (length (now trees·)) ∷ [], (sliceVal (ptr order·) (length (now order·)) ∷ [], (sliceVal (ptr raw·) (length (now raw·)) ∷ [], tt))))))) ∷ []) ∵ suffices ! _ (with-emp 𝓤 (onEntry 𝓤 H A callee.signature (κ1, (κ2, (κ3, (κ4, (κ5, (κ6, tt)))))) (q1, (q2, (q3, (q4, (q5, (q6, tt)))))) (h, (plens·, (paths·, (tlens·, (trees·, (order·, (raw·, tt))))))) (mach h ∷ [], (sliceVal (ptr plens·) (length (now plens·)) ∷ [], (sliceVal (ptr paths·) (length (now paths·)) ∷ [], (sliceVal (ptr tlens·) (length (now tlens·)) ∷ [], (sliceVal (ptr trees·) (length (now trees·)) ∷ [], (sliceVal (ptr order·) (length (now order·)) ∷ [], (sliceVal (ptr raw·) (length (now raw·)) ∷ [], tt))))))))) $ frame ! $ fjoin ! $ done !
 
-  module _ (C : Calls 𝓤 H) (Λ : Loops 𝓤 H) (fm : FmC 𝓤 H (W .laws) C) (known : Triple 𝓤 (C #numbered·root·set-root) (Callee 𝓤 H A at-mem run)) (are0 : Is (MutSlice (named 1) κ1 u64) plens· (sliceVal (ptr plens·) (length (now plens·)) ∷ [])) (are1 : Is (MutSlice (named 2) κ2 u8) paths· (sliceVal (ptr paths·) (length (now paths·)) ∷ [])) (are2 : Is (MutSlice (named 3) κ3 u64) tlens· (sliceVal (ptr tlens·) (length (now tlens·)) ∷ [])) (are3 : Is (MutSlice (named 4) κ4 u8) trees· (sliceVal (ptr trees·) (length (now trees·)) ∷ [])) (are4 : Is (ShrSlice (named 5) κ5 u64) order· (sliceVal (ptr order·) (length (now order·)) ∷ [])) (are5 : Is (ShrSlice (named 6) κ6 u8) raw· (sliceVal (ptr raw·) (length (now raw·)) ∷ [])) where
-    walk : ent 𝓤 (onEntry 𝓤 H A self.signature (κ, (κ1, (κ2, (κ3, (κ4, (κ5, (κ6, tt))))))) (q, (q1, (q2, (q3, (q4, (q5, (q6, tt))))))) (x, (plens·, (paths·, (tlens·, (trees·, (order·, (raw·, tt))))))) (vptr b o ∷ [], (sliceVal (ptr plens·) (length (now plens·)) ∷ [], (sliceVal (ptr paths·) (length (now paths·)) ∷ [], (sliceVal (ptr tlens·) (length (now tlens·)) ∷ [], (sliceVal (ptr trees·) (length (now trees·)) ∷ [], (sliceVal (ptr order·) (length (now order·)) ∷ [], (sliceVal (ptr raw·) (length (now raw·)) ∷ [], tt)))))))) (WpFn 𝓤 H C Λ code.function (vptr b o ∷ sliceVal (ptr plens·) (length (now plens·)) ∷ sliceVal (ptr paths·) (length (now paths·)) ∷ sliceVal (ptr tlens·) (length (now tlens·)) ∷ sliceVal (ptr trees·) (length (now trees·)) ∷ sliceVal (ptr order·) (length (now order·)) ∷ sliceVal (ptr raw·) (length (now raw·)) ∷ []) Post)
-    walk =
-        qed W ((‵ (flft κ q) ⊛ (‵ (flft κ1 q1) ⊛ ‵ (flft κ2 q2) ⊛ ‵ (flft κ3 q3) ⊛ ‵ (flft κ4 q4) ⊛ ‵ (flft κ5 q5) ⊛ ‵ (flft κ6 q6) ⊛ ‵ ftrue)) ∷ ‵ (owns (MutRef (named 0) κ EditorT.the-row ∷ (MutSlice (named 1) κ1 u64) ∷ (MutSlice (named 2) κ2 u8) ∷ (MutSlice (named 3) κ3 u64) ∷ (MutSlice (named 4) κ4 u8) ∷ (ShrSlice (named 5) κ5 u64) ∷ (ShrSlice (named 6) κ6 u8) ∷ []) (x, (plens·, (paths·, (tlens·, (trees·, (order·, (raw·, tt))))))) (vptr b o ∷ [], (sliceVal (ptr plens·) (length (now plens·)) ∷ [], (sliceVal (ptr paths·) (length (now paths·)) ∷ [], (sliceVal (ptr tlens·) (length (now tlens·)) ∷ [], (sliceVal (ptr trees·) (length (now trees·)) ∷ [], (sliceVal (ptr order·) (length (now order·)) ∷ [], (sliceVal (ptr raw·) (length (now raw·)) ∷ [], tt)))))))) ∷ []) ∵ enter ! C Λ code.function (vptr b o ∷ sliceVal (ptr plens·) (length (now plens·)) ∷ sliceVal (ptr paths·) (length (now paths·)) ∷ sliceVal (ptr tlens·) (length (now tlens·)) ∷ sliceVal (ptr trees·) (length (now trees·)) ∷ sliceVal (ptr order·) (length (now order·)) ∷ sliceVal (ptr raw·) (length (now raw·)) ∷ []) _ $
+  module _ (C : Calls 𝓤 H) (Λ : Loops 𝓤 H) (fm : FmC 𝓤 H (W .laws) C) (known : Triple 𝓤 (C #adapter_numbers·root·set-root) (Callee 𝓤 H A at-mem run)) (are0 : Is (MutSlice (named 1) κ1 u64) plens· (sliceVal (ptr plens·) (length (now plens·)) ∷ [])) (are1 : Is (MutSlice (named 2) κ2 u8) paths· (sliceVal (ptr paths·) (length (now paths·)) ∷ [])) (are2 : Is (MutSlice (named 3) κ3 u64) tlens· (sliceVal (ptr tlens·) (length (now tlens·)) ∷ [])) (are3 : Is (MutSlice (named 4) κ4 u8) trees· (sliceVal (ptr trees·) (length (now trees·)) ∷ [])) (are4 : Is (ShrSlice (named 5) κ5 u64) order· (sliceVal (ptr order·) (length (now order·)) ∷ [])) (are5 : Is (ShrSlice (named 6) κ6 u8) raw· (sliceVal (ptr raw·) (length (now raw·)) ∷ [])) where
+    walk· : ent 𝓤 (onEntry 𝓤 H A self.signature (κ, (κ1, (κ2, (κ3, (κ4, (κ5, (κ6, tt))))))) (q, (q1, (q2, (q3, (q4, (q5, (q6, tt))))))) (x, (plens·, (paths·, (tlens·, (trees·, (order·, (raw·, tt))))))) (vptr b o ∷ [], (sliceVal (ptr plens·) (length (now plens·)) ∷ [], (sliceVal (ptr paths·) (length (now paths·)) ∷ [], (sliceVal (ptr tlens·) (length (now tlens·)) ∷ [], (sliceVal (ptr trees·) (length (now trees·)) ∷ [], (sliceVal (ptr order·) (length (now order·)) ∷ [], (sliceVal (ptr raw·) (length (now raw·)) ∷ [], tt)))))))) (WpFn 𝓤 H C Λ code.function (vptr b o ∷ sliceVal (ptr plens·) (length (now plens·)) ∷ sliceVal (ptr paths·) (length (now paths·)) ∷ sliceVal (ptr tlens·) (length (now tlens·)) ∷ sliceVal (ptr trees·) (length (now trees·)) ∷ sliceVal (ptr order·) (length (now order·)) ∷ sliceVal (ptr raw·) (length (now raw·)) ∷ []) Post)
+    walk· =
+        qed W ((‵ (flft κ q) ⊛ (‵ (flft κ1 q1) ⊛ ‵ (flft κ2 q2) ⊛ ‵ (flft κ3 q3) ⊛ ‵ (flft κ4 q4) ⊛ ‵ (flft κ5 q5) ⊛ ‵ (flft κ6 q6) ⊛ ‵ ftrue)) ∷ ‵ (owns (MutRef (named 0) κ RecordT.the-row ∷ (MutSlice (named 1) κ1 u64) ∷ (MutSlice (named 2) κ2 u8) ∷ (MutSlice (named 3) κ3 u64) ∷ (MutSlice (named 4) κ4 u8) ∷ (ShrSlice (named 5) κ5 u64) ∷ (ShrSlice (named 6) κ6 u8) ∷ []) (x, (plens·, (paths·, (tlens·, (trees·, (order·, (raw·, tt))))))) (vptr b o ∷ [], (sliceVal (ptr plens·) (length (now plens·)) ∷ [], (sliceVal (ptr paths·) (length (now paths·)) ∷ [], (sliceVal (ptr tlens·) (length (now tlens·)) ∷ [], (sliceVal (ptr trees·) (length (now trees·)) ∷ [], (sliceVal (ptr order·) (length (now order·)) ∷ [], (sliceVal (ptr raw·) (length (now raw·)) ∷ [], tt)))))))) ∷ []) ∵ enter ! C Λ code.function (vptr b o ∷ sliceVal (ptr plens·) (length (now plens·)) ∷ sliceVal (ptr paths·) (length (now paths·)) ∷ sliceVal (ptr tlens·) (length (now tlens·)) ∷ sliceVal (ptr trees·) (length (now trees·)) ∷ sliceVal (ptr order·) (length (now order·)) ∷ sliceVal (ptr raw·) (length (now raw·)) ∷ []) _ $
         alloc1 ! (λ l0. alloc1 ! (λ l1. alloc1 ! (λ l2. alloc1 ! (λ l3. alloc1 ! (λ l4. alloc1 ! (λ l5. alloc1 ! (λ l6. alloc1 ! (λ l7. alloc1 ! (λ l8. alloc1 ! (λ l9. alloc1 ! (λ l10. alloc1 ! (λ l11. alloc1 ! (λ l12. alloc1 ! (λ l13. alloc1 ! (λ l14. alloc1 ! (λ l15. alloc1 ! (λ l16. alloc1 ! (λ l17. alloc0 ! $ params1 ! $ pass1 ! (init ! 32 refl (tt, tt)) $ pass1 ! (init ! 30 refl (tt, (tt, (record { fits = are0 .0 .1 .0 }, tt)))) $ pass1 ! (init ! 28 refl (tt, (tt, (record { fits = are1 .0 .1 .0 }, tt)))) $ pass1 ! (init ! 26 refl (tt, (tt, (record { fits = are2 .0 .1 .0 }, tt)))) $ pass1 ! (init ! 24 refl (tt, (tt, (record { fits = are3 .0 .1 .0 }, tt)))) $ pass1 ! (init ! 22 refl (tt, (tt, (record { fits = are4 .0 .1 .0 }, tt)))) $ pass1 ! (init ! 20 refl (tt, (tt, (record { fits = are5 .0 .1 .0 }, tt)))) $ pass0 ! $
         -- the record's borrow is opened
         move ! (37 ∷ []) $ fsplit ! $ fsplit3 ! $ drop ! $ move ! (39 ∷ []) $ split ! $ move ! (2 ∷ 3 ∷ 0 ∷ []) $
-        opens ! tt EditorT.the-row {h = h} b o (λ vs. spelt ! EditorT.the-row (Is EditorT.the-row) (shows 𝓤 H A EditorT.the-row) (SL.vals EditorT.the-type EditorL.the-laws) (SL.tells EditorT.the-type EditorL.the-laws) fullShare h vs b o $
-        move ! (1 ∷ []) $ peeks ! EditorT.the-row (Is EditorT.the-row) (shows 𝓤 H A EditorT.the-row) h (mach h ∷ []) (λ g. move ! (1 ∷ 0 ∷ []) $
+        opens ! tt RecordT.the-row {h = h} b o (λ vs. spelt ! RecordT.the-row (Is RecordT.the-row) (shows 𝓤 H A RecordT.the-row) (SL.vals RecordT.the-type RecordL.the-laws) (SL.tells RecordT.the-type RecordL.the-laws) fullShare h vs b o $
+        move ! (1 ∷ []) $ peeks ! RecordT.the-row (Is RecordT.the-row) (shows 𝓤 H A RecordT.the-row) h (mach h ∷ []) (λ g. move ! (1 ∷ 0 ∷ []) $
         -- [the record's cell; what it owns; the open borrow; obs; auth; the other tokens; what the others own; the locals]
-        assigns ! (of-opd ! (load ! (from ! (hop ! (look ! 39 refl) (stop !))) (look-raw ! 0 refl))) (from ! (stop !)) (init ! 23 refl (SL.lawful EditorT.the-type EditorL.the-laws 𝓤 H A W .typed h _ g .0)) $
+        assigns ! (of-opd ! (load ! (from ! (hop ! (look ! 39 refl) (stop !))) (look-raw ! 0 refl))) (from ! (stop !)) (init ! 23 refl (SL.lawful RecordT.the-type RecordL.the-laws 𝓤 H A W .typed h _ g .0)) $
         assigns ! (addr ! (from ! (fld ! refl (hop ! (look-in ! 37 (sub ! 0 refl (whole !))) (stop !))))) (from ! (stop !)) (init ! 21 refl (tt, tt)) $
         assigns ! (agg ! (and-then ! (load ! (from ! (stop !)) (look ! 21 refl)) (and-then ! (load ! (from ! (fld ! refl (stop !))) (look-in ! 37 (sub ! 1 refl (whole !)))) (no-more !)))) (from ! (stop !)) (init ! 19 refl (tt, (tt, (record { fits = are0 .0 .1 .0 }, tt)))) $
         assigns ! (addr ! (from ! (fld ! refl (hop ! (look-in ! 35 (sub ! 0 refl (whole !))) (stop !))))) (from ! (stop !)) (init ! 17 refl (tt, tt)) $
@@ -115,9 +115,9 @@ module _ {M : Type 1} (𝓤 : URA M) (H : Heap 𝓤) (A : Atoms 𝓤) (W : Given
         -- [what the result owns; the other tokens; what is said of the others; the record's cell; the open borrow; obs; auth; the locals]
         let fields = SL.owed NumberedT.the-type NumberedL.the-laws r _ is in
         land ! (from ! (stop !)) (init ! 25 refl (SL.lawful NumberedT.the-type NumberedL.the-laws 𝓤 H A W .typed r _ is .0)) $ rewrite ! 25 (λ (u : Val). ‵ (fat fullShare NumberedL.mir l8 0 u)) (ap only (SL.tells NumberedT.the-type NumberedL.the-laws r _ is)) refl $
-        assigns ! (of-opd ! (load ! (from ! (fld ! refl (stop !))) (look-in ! 25 (sub ! 1 refl (whole !))))) (from ! (hop ! (look ! 39 refl) (stop !))) (store-raw ! 3 refl (SL.lawful EditorT.the-type EditorL.the-laws 𝓤 H A W .typed (r .ed) _ (fields .1 .0) .0)) $
+        assigns ! (of-opd ! (load ! (from ! (fld ! refl (stop !))) (look-in ! 25 (sub ! 1 refl (whole !))))) (from ! (hop ! (look ! 39 refl) (stop !))) (store-raw ! 3 refl (SL.lawful RecordT.the-type RecordL.the-laws 𝓤 H A W .typed (r .ed) _ (fields .1 .0) .0)) $
         assigns ! (of-opd ! (load ! (from ! (fld ! refl (stop !))) (look-in ! 25 (sub ! 0 refl (whole !))))) (from ! (stop !)) (init ! 41 refl (tt, record { fits = fields .0 .1 })) $
-        move ! (3 ∷ 4 ∷ 5 ∷ 6 ∷ []) $ owned ! EditorT.the-row (Is EditorT.the-row) (SL.makes EditorT.the-type EditorL.the-plain 𝓤 H A) (r .ed) _ (fields .1 .0) $ move ! (1 ∷ 0 ∷ []) $ closes ! tt EditorT.the-row (r .ed) (mach (r .ed) ∷ []) b o $
+        move ! (3 ∷ 4 ∷ 5 ∷ 6 ∷ []) $ owned ! RecordT.the-row (Is RecordT.the-row) (SL.makes RecordT.the-type RecordL.the-plain 𝓤 H A) (r .ed) _ (fields .1 .0) $ move ! (1 ∷ 0 ∷ []) $ closes ! tt RecordT.the-row (r .ed) (mach (r .ed) ∷ []) b o $
         returns ! (look ! 40 refl) $ forget ! 6 refl $ forget ! 8 refl $ forget ! 10 refl $ forget ! 12 refl $ forget ! 14 refl $ forget ! 16 refl $ forget ! 18 refl $ forget ! 20 refl $ forget ! 22 refl $ forget ! 24 refl $ forget ! 26 refl $ forget ! 28 refl $ forget ! 30 refl $ forget ! 32 refl $ forget ! 34 refl $ forget ! 36 refl $ forget ! 38 refl $ forget ! 40 refl $
         move ! (40 ∷ 41 ∷ []) $ free1 ! $ move ! (38 ∷ 39 ∷ []) $ free1 ! $ move ! (36 ∷ 37 ∷ []) $ free1 ! $ move ! (34 ∷ 35 ∷ []) $ free1 ! $ move ! (32 ∷ 33 ∷ []) $ free1 ! $ move ! (30 ∷ 31 ∷ []) $ free1 ! $ move ! (28 ∷ 29 ∷ []) $ free1 ! $ move ! (26 ∷ 27 ∷ []) $ free1 ! $ move ! (24 ∷ 25 ∷ []) $ free1 ! $ move ! (22 ∷ 23 ∷ []) $ free1 ! $ move ! (20 ∷ 21 ∷ []) $ free1 ! $ move ! (18 ∷ 19 ∷ []) $ free1 ! $ move ! (16 ∷ 17 ∷ []) $ free1 ! $ move ! (14 ∷ 15 ∷ []) $ free1 ! $ move ! (12 ∷ 13 ∷ []) $ free1 ! $ move ! (10 ∷ 11 ∷ []) $ free1 ! $ move ! (8 ∷ 9 ∷ []) $ free1 ! $ move ! (6 ∷ 7 ∷ []) $ free1 ! $ free0 ! $
         -- the exit
@@ -125,15 +125,15 @@ module _ {M : Type 1} (𝓤 : URA M) (H : Heap 𝓤) (A : Atoms 𝓤) (W : Given
         move ! (2 ∷ 3 ∷ []) $ join ! $ frame ! $ feqI ! (List Val) (vptr b o ∷ []) (vptr b o ∷ []) refl $ fjoin3 ! $ fjoin ! $ owned ! u8 (Is u8) (uint-makes 𝓤 H A W w8) (r .code) _ (fields .0) $ move ! (1 ∷ 0 ∷ []) $ done !)))))))))))))))))))))))))
 
 module _ {M : Type 1} (𝓤 : URA M) (H : Heap 𝓤) (A : Atoms 𝓤) (W : Given 𝓤 H A) (at-mem : Memory → SProp 𝓤) (run : Routine → Fun 𝓤) where
-  self-walks : (C : Calls 𝓤 H) (Λ : Loops 𝓤 H) → FmC 𝓤 H (W .laws) C → Triple 𝓤 (C #numbered·root·set-root) (Callee 𝓤 H A at-mem run) → Walks 𝓤 H A self.ended stayed (WpFn 𝓤 H C Λ code.function) (self.clauses 𝓤 H A at-mem run)
+  self-walks : (C : Calls 𝓤 H) (Λ : Loops 𝓤 H) → FmC 𝓤 H (W .laws) C → Triple 𝓤 (C #adapter_numbers·root·set-root) (Callee 𝓤 H A at-mem run) → Walks 𝓤 H A self.ended stayed (WpFn 𝓤 H C Λ code.function) (self.clauses 𝓤 H A at-mem run)
   self-walks C Λ fm known = walked 𝓤 H A self.ended stayed (self.clauses 𝓤 H A at-mem run) (WpFn 𝓤 H C Λ code.function)
-      (λ κs. (ptr-vals, (slice-vals, (slice-vals, (slice-vals, (slice-vals, (slice-vals, (slice-vals, tt)))))))) (λ κs. (mut-tells (named 0) (κs .0) EditorT.the-row, (mut-slice-tells (named 1) (κs .1 .0) u64, (mut-slice-tells (named 2) (κs .1 .1 .0) u8, (mut-slice-tells (named 3) (κs .1 .1 .1 .0) u64, (mut-slice-tells (named 4) (κs .1 .1 .1 .1 .0) u8, (shr-slice-tells (named 5) (κs .1 .1 .1 .1 .1 .0) u64, (shr-slice-tells (named 6) (κs .1 .1 .1 .1 .1 .1 .0) u8, tt))))))))
-      (λ κs qs bounds a g are. via 𝓤 _ (fst∗ 𝓤 _ (emp 𝓤)) (walk 𝓤 H A W at-mem run (κs .0) (κs .1 .0) (κs .1 .1 .0) (κs .1 .1 .1 .0) (κs .1 .1 .1 .1 .0) (κs .1 .1 .1 .1 .1 .0) (κs .1 .1 .1 .1 .1 .1 .0) (qs .0) (qs .1 .0) (qs .1 .1 .0) (qs .1 .1 .1 .0) (qs .1 .1 .1 .1 .0) (qs .1 .1 .1 .1 .1 .0) (qs .1 .1 .1 .1 .1 .1 .0) (a .0 .ptr .0) (a .0 .ptr .1) (a .0 .name) (a .0 .now) (a .1 .0) (a .1 .1 .0) (a .1 .1 .1 .0) (a .1 .1 .1 .1 .0) (a .1 .1 .1 .1 .1 .0) (a .1 .1 .1 .1 .1 .1 .0) bounds tt C Λ fm known (are .1 .0) (are .1 .1 .0) (are .1 .1 .1 .0) (are .1 .1 .1 .1 .0) (are .1 .1 .1 .1 .1 .0) (are .1 .1 .1 .1 .1 .1 .0)))
+      (λ κs. (ptr-vals, (slice-vals, (slice-vals, (slice-vals, (slice-vals, (slice-vals, (slice-vals, tt)))))))) (λ κs. (mut-tells (named 0) (κs .0) RecordT.the-row, (mut-slice-tells (named 1) (κs .1 .0) u64, (mut-slice-tells (named 2) (κs .1 .1 .0) u8, (mut-slice-tells (named 3) (κs .1 .1 .1 .0) u64, (mut-slice-tells (named 4) (κs .1 .1 .1 .1 .0) u8, (shr-slice-tells (named 5) (κs .1 .1 .1 .1 .1 .0) u64, (shr-slice-tells (named 6) (κs .1 .1 .1 .1 .1 .1 .0) u8, tt))))))))
+      (λ κs qs bounds a g are. via 𝓤 _ (fst∗ 𝓤 _ (emp 𝓤)) (walk· 𝓤 H A W at-mem run (κs .0) (κs .1 .0) (κs .1 .1 .0) (κs .1 .1 .1 .0) (κs .1 .1 .1 .1 .0) (κs .1 .1 .1 .1 .1 .0) (κs .1 .1 .1 .1 .1 .1 .0) (qs .0) (qs .1 .0) (qs .1 .1 .0) (qs .1 .1 .1 .0) (qs .1 .1 .1 .1 .0) (qs .1 .1 .1 .1 .1 .0) (qs .1 .1 .1 .1 .1 .1 .0) (a .0 .ptr .0) (a .0 .ptr .1) (a .0 .name) (a .0 .now) (a .1 .0) (a .1 .1 .0) (a .1 .1 .1 .0) (a .1 .1 .1 .1 .0) (a .1 .1 .1 .1 .1 .0) (a .1 .1 .1 .1 .1 .1 .0) bounds tt C Λ fm known (are .1 .0) (are .1 .1 .0) (are .1 .1 .1 .0) (are .1 .1 .1 .1 .0) (are .1 .1 .1 .1 .1 .0) (are .1 .1 .1 .1 .1 .1 .0)))
 
-self-meets : {M : Type 1} (𝓤 : URA M) (H : Heap 𝓤) (A : Atoms 𝓤) → Given 𝓤 H A → (at-mem : Memory → SProp 𝓤) (run : Routine → Fun 𝓤) (𝓣 : Tables 𝓤 H) → Triple 𝓤 (𝓣 .C #numbered·root·set-root) (Callee 𝓤 H A at-mem run)
+self-meets : {M : Type 1} (𝓤 : URA M) (H : Heap 𝓤) (A : Atoms 𝓤) → Given 𝓤 H A → (at-mem : Memory → SProp 𝓤) (run : Routine → Fun 𝓤) (𝓣 : Tables 𝓤 H) → Triple 𝓤 (𝓣 .C #adapter_numbers·root·set-root) (Callee 𝓤 H A at-mem run)
     → Meets 𝓤 H A self.signature (WpFn 𝓤 H (𝓣 .C) (𝓣 .Λ) code.function) (self.spec 𝓤 H A at-mem run)
 self-meets 𝓤 H A W at-mem run 𝓣 known =
-    walk-meets 𝓤 H A self.ended stayed W (goes-ref 𝓤 H A W 7 0 tt (plain (λ _. EditorT.the-row)), saids-go 𝓤 H A W 7 (restOf (self.ended .signature .params)) (self.ended .kept .1)) (self.clauses 𝓤 H A at-mem run)
+    walk-meets 𝓤 H A self.ended stayed W (goes-ref 𝓤 H A W 7 0 tt (plain (λ _. RecordT.the-row)), saids-go 𝓤 H A W 7 (restOf (self.ended .signature .params)) (self.ended .kept .1)) (self.clauses 𝓤 H A at-mem run)
     (WpFn 𝓤 H (𝓣 .C) (𝓣 .Λ) code.function) (WpFn-mono 𝓤 H (W .laws) 𝓣 code.function) (self-walks 𝓤 H A W at-mem run (𝓣 .C) (𝓣 .Λ) (fmOf 𝓤 H (W .laws) 𝓣) known)
 
 pub tree-editor-set-root-spec : {M : Type 1} → stated.statement M
@@ -142,4 +142,4 @@ tree-editor-set-root-spec 𝓤 H 𝓜 𝓖 𝓡 =
     entered 𝓤 H (tripleOf 𝓤 H (𝓖 .A) self.signature (self.spec 𝓤 H (𝓖 .A) (𝓜 .mem) (𝓡 .run)))
     (tables 𝓤 H 𝓜 𝓡 code.env .C) (tables 𝓤 H 𝓜 𝓡 code.env .Λ) #adapter·tree-editor-set-root code.function (code.unfolded 𝓤 H 𝓜 𝓡)
     (self-meets 𝓤 H (𝓖 .A) (givenOf 𝓤 H 𝓜 𝓖) (𝓜 .mem) (𝓡 .run) (tablesOf 𝓤 H 𝓜 (tables 𝓤 H 𝓜 𝓡 code.env))
-    (cited 𝓤 H (Callee 𝓤 H (𝓖 .A) (𝓜 .mem) (𝓡 .run)) 𝓜 𝓡 code.env #numbered·root·set-root callee-def.routine code.calls-numbered·root·set-root (callee-thm.met 𝓤 H 𝓜 𝓖 𝓡)))
+    (cited 𝓤 H (Callee 𝓤 H (𝓖 .A) (𝓜 .mem) (𝓡 .run)) 𝓜 𝓡 code.env #adapter_numbers·root·set-root callee-def.routine code.calls-adapter-numbers·root·set-root (callee-thm.met 𝓤 H 𝓜 𝓖 𝓡)))

@@ -13,12 +13,6 @@ returns c =
     let path = c .before .before .args .path .now in
     (omega arith, standing-root path (c .if1 .taken), cursor-root path (c .if1 .taken))
 
-slice-aggregate-put : tie.Need-slice-aggregate-put
-slice-aggregate-put c = search needs
-
-put-requires : tie.Need-put-requires
-put-requires c κs = search needs
-
 returns-2 : tie.Need-returns-2
 returns-2 c =
     let p = c .before in
@@ -31,4 +25,4 @@ returns-2 c =
     )
 
 pub at-spec : {M : Type 1} → statement M
-at-spec = tie.close (tie.spec returns slice-aggregate-put put-requires returns-2)
+at-spec = tie.close (tie.spec returns (λ c. search needs) (λ c κs. search needs) returns-2)

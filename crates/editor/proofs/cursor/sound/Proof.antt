@@ -8,16 +8,10 @@ use Rattle.editor.proofs.cursor.sound.Tie as tie
 returns : tie.Need-returns
 returns c = (c .if1 .taken, prefix-within (c .before .before .args .cursor) (c .if1 .taken))
 
-slice-aggregate-at : tie.Need-slice-aggregate-at
-slice-aggregate-at c = search needs
-
-at-requires : tie.Need-at-requires
-at-requires c κs = search needs
-
 returns-2 : tie.Need-returns-2
 returns-2 c =
     let e = c .before .before in
     (c .at .ensures .0, c .at .ensures .1 ∙ prefix-beyond (e .before .before .args .cursor) (e .if1 .left))
 
 pub sound-spec : {M : Type 1} → statement M
-sound-spec = tie.close (tie.spec returns slice-aggregate-at at-requires returns-2)
+sound-spec = tie.close (tie.spec returns (λ c. search needs) (λ c κs. search needs) returns-2)

@@ -5,14 +5,8 @@ use borrow.Author.Needs.{needs}
 use Rattle.editor.proofs.cursor.to_cursor.Statement.{statement}
 use Rattle.editor.proofs.cursor.to_cursor.Tie as tie
 
-slice-aggregate-at : tie.Need-slice-aggregate-at
-slice-aggregate-at c = search needs
-
-at-requires : tie.Need-at-requires
-at-requires c κs = search needs
-
 returns : tie.Need-returns
 returns c = (sym (prefix-within (c .at .result) (c .at .ensures .0)) ∙ c .at .ensures .1, c .at .ensures .2)
 
 pub to-cursor-spec : {M : Type 1} → statement M
-to-cursor-spec = tie.close (tie.spec slice-aggregate-at at-requires returns)
+to-cursor-spec = tie.close (tie.spec (λ c. search needs) (λ c κs. search needs) returns)

@@ -5,10 +5,10 @@ use native.Mathlib.Omega.{arith}
 use borrow.Author.Tests.{not-true, not-false}
 use Rattle.model.specs.Bytes.{Bytes}
 use Rattle.model.specs.Paths.{full, refused}
-use Rattle.edits.specs.Edits.{asEdit}
-use Rattle.edits.specs.Objects.{tableOf}
-use Rattle.edits.specs.declared.code.Code.the-variants.{WriteOpen, BadTable, CursorStale, PathRefused}
-use Rattle.edits.proofs.FrontLaws.{full-short}
+use Rattle.editor_terms.specs.Edits.{asEdit}
+use Rattle.editor_terms.specs.Objects.{tableOf}
+use Rattle.editor_terms.specs.declared.code.Code.the-variants.{WriteOpen, BadTable, CursorStale, PathRefused}
+use Rattle.names.proofs.FrontLaws.{full-short}
 use Rattle.editor.proofs.LookLaws.{begun, front-within}
 use Rattle.editor.proofs.EditLaws.{is-open, bad-table, is-stale, is-refused, is-settled}
 use borrow.Author.Needs.{needs}
@@ -18,29 +18,17 @@ use Rattle.editor.proofs.edit.edit_held.Tie as tie
 returns : tie.Need-returns
 returns c order =
     let a = c .before .before .before .before .before .before .before .before .before .before .before .args in
-    is-open (tableOf (a .ids .now) (a .ends .now) (a .raws .now)) (asEdit (a .edit)) (a .deep) (a .prefix .now) (a .path .now) (a .ed) (a .plens .now) (a .paths .now) (a .tlens .now) (a .trees .now) order WriteOpen refl (c .if1 .taken)
-
-is-good-requires : tie.Need-is-good-requires
-is-good-requires c κs = search needs
+    is-open (tableOf (a .ids .now) (a .ends .now) (a .raws .now)) (asEdit (a .edit)) (a .opening) (a .prefix .now) (a .path .now) (a .ed) (a .plens .now) (a .paths .now) (a .tlens .now) (a .trees .now) order WriteOpen refl (c .if1 .taken)
 
 returns-2 : tie.Need-returns-2
 returns-2 c order =
     let i = c .before in
     let e1 = i .before in
     let a = e1 .before .before .before .before .before .before .before .before .before .before .before .args in
-    bad-table (tableOf (a .ids .now) (a .ends .now) (a .raws .now)) (asEdit (a .edit)) (a .deep) (a .prefix .now) (a .path .now) (a .ed) (a .plens .now) (a .paths .now) (a .tlens .now) (a .trees .now) order BadTable refl (e1 .if1 .left) (sym (i .is-good .ensures) ∙ not-true _ (c .if2 .taken))
-
-slot-for-requires : tie.Need-slot-for-requires
-slot-for-requires c κs = search needs
+    bad-table (tableOf (a .ids .now) (a .ends .now) (a .raws .now)) (asEdit (a .edit)) (a .opening) (a .prefix .now) (a .path .now) (a .ed) (a .plens .now) (a .paths .now) (a .tlens .now) (a .trees .now) order BadTable refl (e1 .if1 .left) (sym (i .is-good .ensures) ∙ not-true _ (c .if2 .taken))
 
 enum-told : tie.Need-enum-told
 enum-told c = search needs
-
-enum-told-2 : tie.Need-enum-told-2
-enum-told-2 c = search needs
-
-enum-known-slot : tie.Need-enum-known-slot
-enum-known-slot c = search needs
 
 put-full-requires : tie.Need-put-full-requires
 put-full-requires c κs =
@@ -77,12 +65,6 @@ settle-requires c κs =
     let p = c .before .before .before .before .before in
     (s .pre .0, s .pre .1 (e1 .if1 .left), b .used, sym (i .is-good .ensures) ∙ not-false _ (e2 .if2 .left), p .put-full .ensures .1 ∙ ap (λ (p : Bytes). full p (a .path .now)) (sym (b .stands)), ap (λ (p : Bytes). refused p (a .path .now)) (b .stands) ∙ b .fine, s .pre .2 (e1 .if1 .left))
 
-same-length : tie.Need-same-length
-same-length c = search needs
-
-same-length-2 : tie.Need-same-length-2
-same-length-2 c = search needs
-
 returns-3 : tie.Need-returns-3
 returns-3 c order =
     let f = c .before .before in
@@ -91,13 +73,7 @@ returns-3 c order =
     let e1 = i .before in
     let s = e1 .before .before .before .before .before .before .before .before .before .before .before in
     let a = s .args in
-    is-stale (tableOf (a .ids .now) (a .ends .now) (a .raws .now)) (asEdit (a .edit)) (a .deep) (a .prefix .now) (a .path .now) (a .ed) (a .plens .now) (a .paths .now) (a .tlens .now) (a .trees .now) order (f .slot-for .result) (s .pre .0) (e1 .if1 .left) (s .pre .1 (e1 .if1 .left)) (sym (i .is-good .ensures) ∙ not-false _ (e2 .if2 .left)) (f .slot-for .ensures) CursorStale refl (c .enum-told .given .1)
-
-same-length-3 : tie.Need-same-length-3
-same-length-3 c = search needs
-
-same-length-4 : tie.Need-same-length-4
-same-length-4 c = search needs
+    is-stale (tableOf (a .ids .now) (a .ends .now) (a .raws .now)) (asEdit (a .edit)) (a .opening) (a .prefix .now) (a .path .now) (a .ed) (a .plens .now) (a .paths .now) (a .tlens .now) (a .trees .now) order (f .slot-for .result) (s .pre .0) (e1 .if1 .left) (s .pre .1 (e1 .if1 .left)) (sym (i .is-good .ensures) ∙ not-false _ (e2 .if2 .left)) (f .slot-for .ensures) CursorStale refl (c .enum-told .given .1)
 
 returns-4 : tie.Need-returns-4
 returns-4 c order =
@@ -107,19 +83,7 @@ returns-4 c order =
     let e1 = i .before in
     let s = e1 .before .before .before .before .before .before .before .before .before .before .before in
     let a = s .args in
-    is-refused (tableOf (a .ids .now) (a .ends .now) (a .raws .now)) (asEdit (a .edit)) (a .deep) (a .prefix .now) (a .path .now) (a .ed) (a .plens .now) (a .paths .now) (a .tlens .now) (a .trees .now) order (f .slot-for .result) (s .pre .0) (e1 .if1 .left) (s .pre .1 (e1 .if1 .left)) (sym (i .is-good .ensures) ∙ not-false _ (e2 .if2 .left)) (f .slot-for .ensures) PathRefused refl (c .enum-told2 .given .1)
-
-same-length-5 : tie.Need-same-length-5
-same-length-5 c = search needs
-
-same-length-6 : tie.Need-same-length-6
-same-length-6 c = search needs
-
-same-length-7 : tie.Need-same-length-7
-same-length-7 c = search needs
-
-same-length-8 : tie.Need-same-length-8
-same-length-8 c = search needs
+    is-refused (tableOf (a .ids .now) (a .ends .now) (a .raws .now)) (asEdit (a .edit)) (a .opening) (a .prefix .now) (a .path .now) (a .ed) (a .plens .now) (a .paths .now) (a .tlens .now) (a .trees .now) order (f .slot-for .result) (s .pre .0) (e1 .if1 .left) (s .pre .1 (e1 .if1 .left)) (sym (i .is-good .ensures) ∙ not-false _ (e2 .if2 .left)) (f .slot-for .ensures) PathRefused refl (c .enum-told2 .given .1)
 
 returns-5 : tie.Need-returns-5
 returns-5 c order =
@@ -131,31 +95,31 @@ returns-5 c order =
     let e1 = i .before in
     let s = e1 .before .before .before .before .before .before .before .before .before .before .before in
     let a = s .args in
-    is-settled (tableOf (a .ids .now) (a .ends .now) (a .raws .now)) (asEdit (a .edit)) (a .deep) (a .prefix .now) (a .path .now) (a .ed) (a .plens .now) (a .paths .now) (a .tlens .now) (a .trees .now) order (f .slot-for .result) (s .pre .0) (e1 .if1 .left) (s .pre .1 (e1 .if1 .left)) (sym (i .is-good .ensures) ∙ not-false _ (e2 .if2 .left)) (f .slot-for .ensures) (k .slot .given .0 .0) (k .slot .given .1) (s .pre .2 (e1 .if1 .left)) (z .settle .result) _ _ _ _ (z .settle .ensures)
+    is-settled (tableOf (a .ids .now) (a .ends .now) (a .raws .now)) (asEdit (a .edit)) (a .opening) (a .prefix .now) (a .path .now) (a .ed) (a .plens .now) (a .paths .now) (a .tlens .now) (a .trees .now) order (f .slot-for .result) (s .pre .0) (e1 .if1 .left) (s .pre .1 (e1 .if1 .left)) (sym (i .is-good .ensures) ∙ not-false _ (e2 .if2 .left)) (f .slot-for .ensures) (k .slot .given .0 .0) (k .slot .given .1) (s .pre .2 (e1 .if1 .left)) (z .settle .result) _ _ _ _ (z .settle .ensures)
 
 pub edit-held-spec : {M : Type 1} → statement M
 edit-held-spec =
     tie.close
     (tie.spec
     returns
-    is-good-requires
+    (λ c κs. search needs)
     returns-2
-    slot-for-requires
+    (λ c κs. search needs)
     enum-told
-    enum-told-2
-    enum-known-slot
+    (λ c. search needs)
+    (λ c. search needs)
     put-full-requires
     array-share-prefix-buf
     slice-aggregate-settle
     settle-requires
-    same-length
-    same-length-2
+    (λ c. search needs)
+    (λ c. search needs)
     returns-3
-    same-length-3
-    same-length-4
+    (λ c. search needs)
+    (λ c. search needs)
     returns-4
-    same-length-5
-    same-length-6
-    same-length-7
-    same-length-8
+    (λ c. search needs)
+    (λ c. search needs)
+    (λ c. search needs)
+    (λ c. search needs)
     returns-5)

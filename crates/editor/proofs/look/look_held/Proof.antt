@@ -4,9 +4,9 @@ use lib.ListN.{length}
 use native.Mathlib.Omega.{arith}
 use Rattle.model.specs.Bytes.{Bytes}
 use Rattle.model.specs.Paths.{base, full}
-use Rattle.slots.specs.View.{editorOf}
-use Rattle.edits.proofs.FrontLaws.{full-short}
-use Rattle.walk.specs.Lookups.{lookedAs}
+use Rattle.store_slots.specs.View.{editorOf}
+use Rattle.names.proofs.FrontLaws.{full-short}
+use Rattle.editor_walk.specs.Lookups.{lookedAs}
 use Rattle.editor.proofs.LookLaws.{looked-open, opened, begun, stale, path-refused, went-down, front-within}
 use borrow.Author.Needs.{needs}
 use Rattle.editor.proofs.look.look_held.Statement.{statement}
@@ -17,17 +17,8 @@ returns c order =
     let a = c .before .before .before .before .before .before .before .before .args in
     looked-open (a .prefix .now) (a .path .now) (editorOf 20 (a .ed) (a .plens .now) (a .paths .now) (a .tlens .now) (a .trees .now) order) (opened (a .ed) (a .plens .now) (a .paths .now) (a .tlens .now) (a .trees .now) order (c .if1 .taken))
 
-slot-for-requires : tie.Need-slot-for-requires
-slot-for-requires c κs = search needs
-
 enum-told : tie.Need-enum-told
 enum-told c = search needs
-
-enum-told-2 : tie.Need-enum-told-2
-enum-told-2 c = search needs
-
-enum-known-slot : tie.Need-enum-known-slot
-enum-known-slot c = search needs
 
 put-full-requires : tie.Need-put-full-requires
 put-full-requires c κs =
@@ -87,10 +78,10 @@ look-held-spec =
     tie.close
     (tie.spec
     returns
-    slot-for-requires
+    (λ c κs. search needs)
     enum-told
-    enum-told-2
-    enum-known-slot
+    (λ c. search needs)
+    (λ c. search needs)
     put-full-requires
     array-share-prefix-buf
     slice-aggregate-look

@@ -1,22 +1,13 @@
 -- `editor::ready::slot_for` meets its contract: the slot of the prefix is looked for first, then the path is judged. Assumes nothing.
-use Rattle.runs.specs.Digits.{digits}
-use Rattle.runs.specs.Runs.{cut}
+use Rattle.store_runs.specs.Digits.{digits}
+use Rattle.store_runs.specs.Runs.{cut}
 use Rattle.editor.proofs.LookLaws.{no-slot, no-path, slot-in}
 use borrow.Author.Needs.{needs}
 use Rattle.editor.proofs.ready.slot_for.Statement.{statement}
 use Rattle.editor.proofs.ready.slot_for.Tie as tie
 
-find-requires : tie.Need-find-requires
-find-requires c κs = search needs
-
 enum-told : tie.Need-enum-told
 enum-told c = search needs
-
-enum-known-slot : tie.Need-enum-known-slot
-enum-known-slot c = search needs
-
-is-refused-requires : tie.Need-is-refused-requires
-is-refused-requires c κs = search needs
 
 returns : tie.Need-returns
 returns c w runs l =
@@ -43,4 +34,4 @@ returns-3 c w runs l =
 pub slot-for-spec : {M : Type 1} → statement M
 slot-for-spec =
     tie.close
-    (tie.spec find-requires enum-told enum-known-slot is-refused-requires returns returns-2 returns-3)
+    (tie.spec (λ c κs. search needs) enum-told (λ c. search needs) (λ c κs. search needs) returns returns-2 returns-3)

@@ -1,7 +1,7 @@
 -- `editor::root::long_enough` meets its contract: each test is one of the five lengths. Assumes nothing.
 use mathlib.Core.Path.{refl}
 use native.Mathlib.Omega.{arith}
-use Rattle.store.proofs.Deciding.{refuses}
+use Rattle.store_check.proofs.Deciding.{refuses}
 use Rattle.editor.proofs.root.long_enough.Statement.{statement}
 use Rattle.editor.proofs.root.long_enough.Tie as tie
 

@@ -6,21 +6,6 @@ use borrow.Author.Needs.{needs}
 use Rattle.editor.proofs.root.new.Statement.{statement}
 use Rattle.editor.proofs.root.new.Tie as tie
 
-long-enough-requires : tie.Need-long-enough-requires
-long-enough-requires c κs = search needs
-
-same-length : tie.Need-same-length
-same-length c = search needs
-
-same-length-2 : tie.Need-same-length-2
-same-length-2 c = search needs
-
-same-length-3 : tie.Need-same-length-3
-same-length-3 c = search needs
-
-same-length-4 : tie.Need-same-length-4
-same-length-4 c = search needs
-
 returns : tie.Need-returns
 returns c =
     let h = c .before in
@@ -33,18 +18,6 @@ rooted-requires c κs =
     let h = e .before in
     let l = h .long-enough .ensures (h .before .before .before .before .before .before .before .before .before .before .before .args .ed) .yes (not-false _ (e .if1 .left)) in
     (l .plens, l .paths, l .tlens, l .trees)
-
-same-length-5 : tie.Need-same-length-5
-same-length-5 c = search needs
-
-same-length-6 : tie.Need-same-length-6
-same-length-6 c = search needs
-
-same-length-7 : tie.Need-same-length-7
-same-length-7 c = search needs
-
-same-length-8 : tie.Need-same-length-8
-same-length-8 c = search needs
 
 returns-2 : tie.Need-returns-2
 returns-2 c =
@@ -59,15 +32,15 @@ pub new-spec : {M : Type 1} → statement M
 new-spec =
     tie.close
     (tie.spec
-    long-enough-requires
-    same-length
-    same-length-2
-    same-length-3
-    same-length-4
+    (λ c κs. search needs)
+    (λ c. search needs)
+    (λ c. search needs)
+    (λ c. search needs)
+    (λ c. search needs)
     returns
     rooted-requires
-    same-length-5
-    same-length-6
-    same-length-7
-    same-length-8
+    (λ c. search needs)
+    (λ c. search needs)
+    (λ c. search needs)
+    (λ c. search needs)
     returns-2)

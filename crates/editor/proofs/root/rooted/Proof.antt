@@ -9,14 +9,8 @@ use borrow.Author.Needs.{needs}
 use Rattle.editor.proofs.root.rooted.Statement.{statement}
 use Rattle.editor.proofs.root.rooted.Tie as tie
 
-well-formed-requires : tie.Need-well-formed-requires
-well-formed-requires c κs = search needs
-
 enum-told : tie.Need-enum-told
 enum-told c = search needs
-
-enum-known-entries : tie.Need-enum-known-entries
-enum-known-entries c = search needs
 
 returns : tie.Need-returns
 returns c order o =
@@ -34,32 +28,20 @@ returns-2 c order o =
     let a = s .args in
     many-names (a .raw .now) (lent (a .ed) (a .plens .now) (a .paths .now) (a .tlens .now) (a .trees .now) order) (x .entries .given .0 .0) (x .entries .given .0 .1 .0) (sym (w .well-formed .ensures) ∙ ap checkedAs (x .entries .given .1)) (c .before .if1 .left) (c .if2 .taken)
 
-slice-relend-prefix-root-only : tie.Need-slice-relend-prefix-root-only
-slice-relend-prefix-root-only c = search needs
-
 slice-aggregate-root-only : tie.Need-slice-aggregate-root-only
 slice-aggregate-root-only c =
     let s = c .before .before .before .before .before .before .before .before .before .before .before .before in
     sym (length-take-le 64 (s .args .plens .now) (s .pre .0))
-
-slice-relend-prefix-root-only-2 : tie.Need-slice-relend-prefix-root-only-2
-slice-relend-prefix-root-only-2 c = search needs
 
 slice-aggregate-root-only-2 : tie.Need-slice-aggregate-root-only-2
 slice-aggregate-root-only-2 c =
     let s = c .before .before .before .before .before .before .before .before .before .before .before .before .before in
     sym (length-take-le 8192 (s .args .paths .now) (s .pre .1))
 
-slice-relend-prefix-root-only-3 : tie.Need-slice-relend-prefix-root-only-3
-slice-relend-prefix-root-only-3 c = search needs
-
 slice-aggregate-root-only-3 : tie.Need-slice-aggregate-root-only-3
 slice-aggregate-root-only-3 c =
     let s = c .before .before .before .before .before .before .before .before .before .before .before .before .before .before in
     sym (length-take-le 64 (s .args .tlens .now) (s .pre .2))
-
-slice-relend-prefix-root-only-4 : tie.Need-slice-relend-prefix-root-only-4
-slice-relend-prefix-root-only-4 c = search needs
 
 slice-aggregate-root-only-4 : tie.Need-slice-aggregate-root-only-4
 slice-aggregate-root-only-4 c =
@@ -80,18 +62,6 @@ returns-3 c order o =
     let w = c .before .before in
     let a = w .before .before .before .before .before .before .args in
     no-root (a .raw .now) (lent (a .ed) (a .plens .now) (a .paths .now) (a .tlens .now) (a .trees .now) order) (w .well-formed .result) (w .well-formed .ensures) (c .enum-told .given .1)
-
-same-length : tie.Need-same-length
-same-length c = search needs
-
-same-length-2 : tie.Need-same-length-2
-same-length-2 c = search needs
-
-same-length-3 : tie.Need-same-length-3
-same-length-3 c = search needs
-
-same-length-4 : tie.Need-same-length-4
-same-length-4 c = search needs
 
 returns-4 : tie.Need-returns-4
 returns-4 c order o =
@@ -119,23 +89,23 @@ pub rooted-spec : {M : Type 1} → statement M
 rooted-spec =
     tie.close
     (tie.spec
-    well-formed-requires
+    (λ c κs. search needs)
     enum-told
-    enum-known-entries
+    (λ c. search needs)
     returns
     returns-2
-    slice-relend-prefix-root-only
+    (λ c. search needs)
     slice-aggregate-root-only
-    slice-relend-prefix-root-only-2
+    (λ c. search needs)
     slice-aggregate-root-only-2
-    slice-relend-prefix-root-only-3
+    (λ c. search needs)
     slice-aggregate-root-only-3
-    slice-relend-prefix-root-only-4
+    (λ c. search needs)
     slice-aggregate-root-only-4
     root-only-requires
     returns-3
-    same-length
-    same-length-2
-    same-length-3
-    same-length-4
+    (λ c. search needs)
+    (λ c. search needs)
+    (λ c. search needs)
+    (λ c. search needs)
     returns-4)

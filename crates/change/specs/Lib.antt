@@ -1,2 +1,0 @@
--- Definitions that the contracts of `change` cite.
-pub mod Steps

@@ -1,0 +1,3 @@
+pub mod EditLaws
+pub mod IdLaws
+pub mod TableLaws

@@ -1,0 +1,4 @@
+pub mod Answers
+pub mod Edits
+pub mod Ids
+pub mod Objects

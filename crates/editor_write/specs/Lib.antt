@@ -1,0 +1,3 @@
+-- Definitions that the contracts of `editor_write` cite.
+pub mod Requests
+pub mod Steps

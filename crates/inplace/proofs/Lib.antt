@@ -1,2 +1,0 @@
--- The laws that the proofs of all functions share.
-pub mod Said

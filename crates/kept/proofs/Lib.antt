@@ -1,2 +1,0 @@
--- What the functions of the store layer leave.
-pub mod Kept

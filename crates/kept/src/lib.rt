@@ -1,1 +1,0 @@
-// Theorems alone: a store that holds an editor holds one after each function of the store layer.

@@ -1,3 +1,0 @@
--- Definitions that the contracts of `lesson` cite.
-pub mod Lesson
-pub mod Puts

@@ -1,0 +1,3 @@
+-- Definitions that the contracts of `names_compact` cite.
+pub mod Compact
+pub mod Judge

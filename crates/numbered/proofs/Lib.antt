@@ -1,5 +1,0 @@
--- The laws that the proofs of several functions share, and that every answer is decided.
-pub mod AskLaws
-pub mod Decided
-pub mod NextLaws
-pub mod NumberLaws

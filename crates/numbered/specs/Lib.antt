@@ -1,3 +1,0 @@
--- Definitions that the contracts of `numbered` cite.
-pub mod Asks
-pub mod Numbers

@@ -1,9 +1,0 @@
-pub mod AnswerLaws
-pub mod Examples
-pub mod FirstBad
-pub mod FormLaws
-pub mod HexLaws
-pub mod NextLaws
-pub mod PlaceLaws
-pub mod ReadLaws
-pub mod TextLaws

@@ -1,5 +1,0 @@
--- The laws that the proofs of several functions share.
-pub mod DigitLaws
-pub mod FindLaws
-pub mod Laws
-pub mod MoveLaws

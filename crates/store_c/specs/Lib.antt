@@ -1,2 +1,0 @@
--- Definitions that the contracts of `store_c` cite.
-pub mod Record

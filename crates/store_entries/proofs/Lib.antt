@@ -1,0 +1,3 @@
+-- The laws that the proofs of several functions share.
+pub mod EditLaws
+pub mod PlaceLaws

@@ -1,8 +1,0 @@
--- The laws that the proofs of several functions share.
-pub mod AnswerLaws
-pub mod BackLaws
-pub mod BeginLaws
-pub mod Decided
-pub mod FailLaws
-pub mod RequestLaws
-pub mod Theorems
