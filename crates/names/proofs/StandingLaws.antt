@@ -69,6 +69,18 @@ module _ {a b : Bytes} {i : ℕ} (s : Shares a b i) where
     rest = cmp-past i (asKind x a) (asKind y b) (key-long x a i (s .left)) (key-long y b i (s .right)) (key-take x a i (s .left) ∙ s .alike ∙ sym (key-take y b i (s .right)));
   }
 
+-- where two names differ, the one with the lower byte comes first
+shares-other : {a b : Bytes} {i : ℕ} → Shares a b i → Shares b a i
+shares-other s = record { left = s .right; right = s .left; alike = sym (s .alike); stop = λ p q e. s .stop q p (sym e) }
+
+pub lower-less : {a b : Bytes} → Lower a b → (x y : Bool) → Ordering·lt ≡ cmp (asKind x a) (asKind y b)
+lower-less {a} {b} l x y =
+    byte-less (shares-compare (l .shares) x y) (in-name a x (l .at) (l .left)) (in-name b y (l .at) (l .right)) (key-long x a (suc (l .at)) (l .left)) (key-long y b (suc (l .at)) (l .right)) (l .less)
+
+pub lower-greater : {a b : Bytes} → Lower b a → (x y : Bool) → Ordering·gt ≡ cmp (asKind x a) (asKind y b)
+lower-greater {a} {b} l x y =
+    byte-more (shares-compare (shares-other (l .shares)) x y) (in-name a x (l .at) (l .right)) (in-name b y (l .at) (l .left)) (key-long x a (suc (l .at)) (l .right)) (key-long y b (suc (l .at)) (l .left)) (l .less)
+
 -- Neither slash nor NUL: of a name, and of its parts.
 has-append : (c : ℕ) (a b : Bytes) → has c a ≡ false → has c (a ++ b) ≡ has c b
 has-append c [] b h = refl
