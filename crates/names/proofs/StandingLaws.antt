@@ -16,6 +16,7 @@ use Rattle.model.proofs.RawLaws.{name-no-nul}
 use Rattle.model.proofs.SoundTrees.{name-plain}
 use Rattle.names.proofs.OrderLaws.{in-name, after-name, Comparing, ends-left, ends-right, ends-both, byte-less, byte-more}
 use Rattle.names.specs.Check.{Shorter, Shares, Lower, plain, besides}
+use Rattle.names.specs.Eight.{AlikeTo}
 use Rattle.names.specs.Standings.{StandsIn}
 use Rattle.names.specs.declared.neighbour.Standing.the-variants.{Apart, Within, Wrong}
 
@@ -25,8 +26,8 @@ pub record Alike (a b : Bytes) (n i : ℕ) : Type 0 where
   pub within : i ≤ n
   pub same : take i a ≡ take i b
 
-pub alike-begin : {a b : Bytes} {n : ℕ} → Shorter (length a) (length b) n → Alike a b n 0
-alike-begin s = record { bound = s; within = omega arith; same = refl }
+pub alike-begin : {a b : Bytes} {n i : ℕ} → Shorter (length a) (length b) n → AlikeTo a b n i → Alike a b n i
+alike-begin s f = record { bound = s; within = f .within; same = f .same }
 
 module _ {a b : Bytes} {n i : ℕ} (at : Alike a b n i) where
   pub alike-more : i < n → getD a i 0 ≡ getD b i 0 → Alike a b n (i + 1)

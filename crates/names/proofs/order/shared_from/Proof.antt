@@ -2,7 +2,7 @@
 use borrow.Author.Needs.{needs}
 use Prim.Native.Nat.{_-_}
 use native.Mathlib.Omega.{arith}
-use Rattle.names.proofs.StandingLaws.{Alike, alike-more, alike-differ, alike-end}
+use Rattle.names.proofs.StandingLaws.{Alike, alike-begin, alike-more, alike-differ, alike-end}
 use Rattle.names.proofs.order.shared_from.Statement.{statement}
 use Rattle.names.proofs.order.shared_from.Tie as tie
 
@@ -13,7 +13,7 @@ abbrev μ-loop : tie.MeasureT-loop
 μ-loop a b n from i₀ i = n - i
 
 loop-holds : tie.Need-loop-holds Inv-loop μ-loop
-loop-holds c = let p = c .pre in record { bound = p .0; within = p .1 .within; same = p .1 .same }
+loop-holds c = alike-begin (c .pre .0) (c .pre .1)
 
 shared-slice-read-if1 : tie.Need-shared-slice-read-if1 Inv-loop μ-loop
 shared-slice-read-if1 c =
