@@ -81,12 +81,14 @@ def main():
               ("an upsert into a full store, instructions", at["an upsert into a full store, moving all of it"][0], 400000),
               ("a lookup beside 30 files, instructions", at["a lookup beside 30 files"][0], 15000),
               ("a lookup in a full store, instructions", at["a lookup in a full store"][0], 400000),
+              ("30 upserts, names of 28 bytes over names of 12, instructions",
+               at["30 upserts, names of 28 bytes, 24 shared"][0] / at["30 upserts, names of 12 bytes"][0], 1.3),
               ("the write of 61 trees, time over the original's", float(time[write][0]) / float(time[write][1]), 4),
               ("stack of any call, bytes", max(stack.values()), 8192),
               ("lent, bytes", LENT + RECORD, 81920),
               ("heap of any call, bytes", max(int(h[0]) for h in heap.values()), 0)]
     table(["Bound", "measured", "at most", ""],
-          [[what, number(n) if n == int(n) else "%.1f" % n, number(most), "kept" if n <= most else "**missed**"] for what, n, most in bounds])
+          [[what, number(n) if n == int(n) else "%.2f" % n, number(most) if most == int(most) else str(most), "kept" if n <= most else "**missed**"] for what, n, most in bounds])
     missed = {what for what, n, most in bounds if n > most}
     for what in sorted(missed - KNOWN):
         print("missed, and docs/FIGURES.md does not say so: " + what)

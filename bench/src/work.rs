@@ -1,4 +1,4 @@
-//! The pieces of work, the same on both sides. Names are those that a course's files have: 9 to 16 bytes.
+//! The pieces of work, the same on both sides. Names are those that a course's files have, 9 to 16 bytes, where nothing else is said.
 use gix_hash::ObjectId;
 use gix_object::Tree;
 use gix_object::tree::{Editor as Original, EntryKind as Kind, encode};
@@ -49,6 +49,11 @@ macro_rules! kept {
 
 type Paths = Vec<Vec<u8>>;
 kept!(thirty: Paths = (0..30).map(|k| format!("hand-in/exercise-{k:02}.c").into_bytes()).collect());
+// names of other sorts, thirty of each: of 6 bytes, of 12, of 28 of which 24 are shared, of 200 of which 190 are shared
+kept!(of_6: Paths = (0..30).map(|k| format!("hand-in/a{k:03}.c").into_bytes()).collect());
+kept!(of_12: Paths = (0..30).map(|k| format!("hand-in/exercise{k:02}.c").into_bytes()).collect());
+kept!(of_28: Paths = (0..30).map(|k| format!("hand-in/exercise-09-semihosting-{k:02}.c").into_bytes()).collect());
+kept!(of_200: Paths = (0..30).map(|k| format!("hand-in/{}{k:08}.c", "exercise-09-semihosting-".repeat(8).split_at(190).0).into_bytes()).collect());
 // in an order that is mixed by a fixed step
 kept!(many: Paths = (0..960).map(|k| k * 617 % 960).map(|k| format!("folder-{:02}/ex-{k:04}.c", k % 60).into_bytes()).collect());
 kept!(one_folder: Paths = (0..1000).map(|k| k * 617 % 1000).map(|k| format!("all/ex-{k:04}.c").into_bytes()).collect());
@@ -167,6 +172,7 @@ kept!(after_loaded: Ready = ours_after(editor(&listed().root, &listed().objects)
 
 /// Makes everything that is kept.
 pub fn warm() {
+    black_box((of_6(), of_12(), of_28(), of_200()));
     black_box((thirty(), many(), one_folder(), full(), changes(), lookups(), beside(), behind(), first(), one()));
     black_box((listed(), after_thirty(), after_many(), after_full(), after_loaded()));
 }
@@ -199,6 +205,18 @@ pieces! {
     "30 upserts in one folder", false, w_ours_thirty, w_theirs_thirty:
         editor(NOTHING, no_objects()); |s| our_upserts(s, thirty());
         original(NOTHING, no_objects()); |s| their_upserts(s, thirty());
+    "30 upserts, names of 6 bytes", false, w_ours_of_6, w_theirs_of_6:
+        editor(NOTHING, no_objects()); |s| our_upserts(s, of_6());
+        original(NOTHING, no_objects()); |s| their_upserts(s, of_6());
+    "30 upserts, names of 12 bytes", false, w_ours_of_12, w_theirs_of_12:
+        editor(NOTHING, no_objects()); |s| our_upserts(s, of_12());
+        original(NOTHING, no_objects()); |s| their_upserts(s, of_12());
+    "30 upserts, names of 28 bytes, 24 shared", false, w_ours_of_28, w_theirs_of_28:
+        editor(NOTHING, no_objects()); |s| our_upserts(s, of_28());
+        original(NOTHING, no_objects()); |s| their_upserts(s, of_28());
+    "30 upserts, names of 200 bytes, 190 shared", false, w_ours_of_200, w_theirs_of_200:
+        editor(NOTHING, no_objects()); |s| our_upserts(s, of_200());
+        original(NOTHING, no_objects()); |s| their_upserts(s, of_200());
     "960 upserts over 60 folders", true, w_ours_many, w_theirs_many:
         editor(NOTHING, no_objects()); |s| our_upserts(s, many());
         original(NOTHING, no_objects()); |s| their_upserts(s, many());

@@ -1,5 +1,5 @@
 -- Bytes eight at a time: a name is plain where each eight of its bytes are, and of two numbers of as many bytes the first bytes that differ decide; such a number gives its bytes back. Assumes nothing.
-use Prim.Native.Nat.{ℕ, zero, suc, _+_, _-_, _*_, _≤_, _<_, _/_, _%_}
+use Prim.Native.Nat.{ℕ, zero, suc, _+_, _-_, _*_, _≤_, _<_, _/_, _%_, Ordering·lt, Ordering·gt}
 use mathlib.Core.Path.{_≡_, refl, sym, ap, _∙_}
 use mathlib.Core.List.{[], _∷_, _++_}
 use mathlib.Core.Bool.{Bool, true, false, not, _&&_, _||_}
@@ -8,12 +8,13 @@ use lib.Dec.{eqb, ltb}
 use lib.ListN.{length, take, drop, getD, length-drop, take-append-drop, drop-of-length-le}
 use lib.Seq.{drop-cons, drop-drop, take-all, take-add, take-take, getD-drop, length-take-le}
 use borrow.Author.Tests.{eqb-true, eqb-false, ltb-true, ltb-false}
-use Rattle.model.specs.Bytes.{Bytes, has, same}
+use Rattle.model.specs.Bytes.{Bytes, cmp, has, same}
+use Rattle.model.specs.Tree.{asKind}
 use Rattle.model.proofs.Basics.{and-false, no-way}
 use Rattle.model.proofs.ByteLaws.{has-here, has-past, same-eq, same-of}
 use Rattle.names.specs.Check.{Lower, plain}
-use Rattle.names.specs.Eight.{number, lowNumber, bytesOf, LowAt}
-use Rattle.names.proofs.StandingLaws.{plain-append, plain-front}
+use Rattle.names.specs.Eight.{number, lowNumber, bytesOf, LowAt, AlikeTo}
+use Rattle.names.proofs.StandingLaws.{plain-append, plain-front, lower-less, lower-greater}
 
 -- the eight bytes at a place
 eight : (s : Bytes) (k : ℕ) → k + 8 ≤ length s →
@@ -238,7 +239,7 @@ lower-first (suc n) m (x ∷ a) (y ∷ b) h g l t = go (λ k. lower-first n k a 
         absurd (omega arith)
 
 -- and where they are the same, so are the bytes
-number-same : (n m : ℕ) (a b : Bytes) → n ≤ length a → n ≤ length b → ((i : ℕ) → getD a i 0 < 256) → ((i : ℕ) → getD b i 0 < 256) → number m (take n a) ≡ number m (take n b) → take n a ≡ take n b
+pub number-same : (n m : ℕ) (a b : Bytes) → n ≤ length a → n ≤ length b → ((i : ℕ) → getD a i 0 < 256) → ((i : ℕ) → getD b i 0 < 256) → number m (take n a) ≡ number m (take n b) → take n a ≡ take n b
 unfolding number
 number-same zero m a b h g k l t = refl
 number-same (suc n) m [] b h g k l t = absurd (omega arith)
@@ -270,11 +271,9 @@ lower-past (suc k) (x ∷ a) (y ∷ b) h g e l =
     let q : take k a ≡ take k b = cc in
     lower-more x y a b p (lower-past k a b (omega arith) (omega arith) q l)
 
--- two names as long, of at most sixteen bytes: the last eight bytes decide where the first are alike
-pub lower-last : (k : ℕ) (a b : Bytes) → k ≤ 8 → k + 8 ≤ length a → k + 8 ≤ length b → ((i : ℕ) → getD a i 0 < 256) → ((i : ℕ) → getD b i 0 < 256) →
-    number 0 (take 8 a) ≡ number 0 (take 8 b) → number 0 (take 8 (drop k a)) < number 0 (take 8 (drop k b)) → Lower a b
-lower-last k a b s h g m l e t =
-    let q : take k a ≡ take k b = sym (take-take k 8 a s) ∙ ap (take k) (number-same 8 0 a b (omega arith) (omega arith) m l e) ∙ take-take k 8 b s in
+-- so of two names with k bytes alike the number of the next eight decides
+pub lower-at : (k : ℕ) (a b : Bytes) → k + 8 ≤ length a → k + 8 ≤ length b → ((i : ℕ) → getD b i 0 < 256) → take k a ≡ take k b → number 0 (take 8 (drop k a)) < number 0 (take 8 (drop k b)) → Lower a b
+lower-at k a b h g l q t =
     lower-past k a b (omega arith) (omega arith) q
     (lower-first 8 0 (drop k a) (drop k b) (omega (arith, length-drop k a)) (omega (arith, length-drop k b)) (λ i. rw (getD-drop k b i 0) (l (k + i))) t)
 
@@ -310,3 +309,45 @@ blocks-tell {k} {v} {w} {x} {y} {a} {b} m n p q h i j e = go (eqb x y) refl
     go : (t : Bool) → eqb x y ≡ t → t ≡ same a b
     go true f = sym (same-of a b (same-blocks k a b h i j (alike-block m n e) (alike-block p q (eqb-true x y f))))
     go false f = other-block p q (eqb-false x y f)
+
+-- Names that begin alike, eight bytes at a time.
+pub eight-more : (i : ℕ) (a b : Bytes) → take i a ≡ take i b → take 8 (drop i a) ≡ take 8 (drop i b) → take (i + 8) a ≡ take (i + 8) b
+eight-more i a b p q = take-add i 8 a ∙ ap (λ (l : Bytes). l ++ take 8 (drop i a)) p ∙ ap (λ (l : Bytes). take i b ++ l) q ∙ sym (take-add i 8 b)
+
+-- the first i of n bytes are alike
+pub record Passed (a b : Bytes) (n i : ℕ) : Type 0 where
+  pub within : i ≤ n
+  pub same : take i a ≡ take i b
+
+pub passed-begin : (a b : Bytes) (n : ℕ) → Passed a b n 0
+passed-begin a b n = record { within = omega arith; same = refl }
+
+module _ {a b : Bytes} {n i : ℕ} (at : Passed a b n i) where
+  pub passed-end : n < i + 8 → AlikeTo a b n i
+  passed-end h = record { within = at .within; same = at .same; stop = λ g. absurd (omega arith) }
+
+  module _ {x y : ℕ} where
+    pub passed-more : i + 8 ≤ n → LowAt a i x → LowAt b i y → x ≡ y → Passed a b n (i + 8)
+    passed-more h p q e = record { within = h; same = eight-more i a b (at .same) (alike-block p q e) }
+
+    pub passed-differ : LowAt a i x → LowAt b i y → (x ≡ y → ⊥) → AlikeTo a b n i
+    passed-differ p q ne = record { within = at .within; same = at .same; stop = λ _ e. ne (p .is ∙ ap lowNumber e ∙ sym (q .is)) }
+
+-- The order of two names by their first eight bytes that differ.
+module _ {a b : Bytes} {n i : ℕ} (s : AlikeTo a b n i) (h : i + 8 ≤ n) (left : n ≤ length a) (right : n ≤ length b) (la : (j : ℕ) → getD a j 0 < 256) (lb : (j : ℕ) → getD b j 0 < 256) where
+  pub eight-less : number 0 (take 8 (drop i a)) < number 0 (take 8 (drop i b)) → (x y : Bool) → Ordering·lt ≡ cmp (asKind x a) (asKind y b)
+  eight-less t = lower-less (lower-at i a b (omega arith) (omega arith) lb (s .same) t)
+
+  eight-other : number 0 (take 8 (drop i a)) ≡ number 0 (take 8 (drop i b)) → ⊥
+  eight-other e =
+      s .stop h
+      (number-same 8 0 (drop i a) (drop i b) (omega (arith, length-drop i a)) (omega (arith, length-drop i b)) (λ j. rw (getD-drop i a j 0) (la (i + j))) (λ j. rw (getD-drop i b j 0) (lb (i + j))) e)
+
+  pub eight-greater : number 0 (take 8 (drop i b)) ≤ number 0 (take 8 (drop i a)) → (x y : Bool) → Ordering·gt ≡ cmp (asKind x a) (asKind y b)
+  eight-greater t = lower-greater (lower-at i b a (omega arith) (omega arith) la (sym (s .same)) (go (ltb (number 0 (take 8 (drop i b))) (number 0 (take 8 (drop i a)))) refl))
+    where
+      go : (q : Bool) → ltb (number 0 (take 8 (drop i b))) (number 0 (take 8 (drop i a))) ≡ q → number 0 (take 8 (drop i b)) < number 0 (take 8 (drop i a))
+      go true e = ltb-true _ _ e
+      go false e =
+          let z : number 0 (take 8 (drop i a)) ≤ number 0 (take 8 (drop i b)) = ltb-false (number 0 (take 8 (drop i b))) (number 0 (take 8 (drop i a))) e in
+          absurd (eight-other (omega arith))

@@ -16,6 +16,7 @@ use Rattle.model.proofs.RawLaws.{name-no-nul}
 use Rattle.model.proofs.SoundTrees.{name-plain}
 use Rattle.names.proofs.OrderLaws.{in-name, after-name, Comparing, ends-left, ends-right, ends-both, byte-less, byte-more}
 use Rattle.names.specs.Check.{Shorter, Shares, Lower, plain, besides}
+use Rattle.names.specs.Eight.{AlikeTo}
 use Rattle.names.specs.Standings.{StandsIn}
 use Rattle.names.specs.declared.neighbour.Standing.the-variants.{Apart, Within, Wrong}
 
@@ -25,8 +26,8 @@ pub record Alike (a b : Bytes) (n i : ℕ) : Type 0 where
   pub within : i ≤ n
   pub same : take i a ≡ take i b
 
-pub alike-begin : {a b : Bytes} {n : ℕ} → Shorter (length a) (length b) n → Alike a b n 0
-alike-begin s = record { bound = s; within = omega arith; same = refl }
+pub alike-begin : {a b : Bytes} {n i : ℕ} → Shorter (length a) (length b) n → AlikeTo a b n i → Alike a b n i
+alike-begin s f = record { bound = s; within = f .within; same = f .same }
 
 module _ {a b : Bytes} {n i : ℕ} (at : Alike a b n i) where
   pub alike-more : i < n → getD a i 0 ≡ getD b i 0 → Alike a b n (i + 1)
@@ -68,6 +69,18 @@ module _ {a b : Bytes} {i : ℕ} (s : Shares a b i) where
     within = key-long x a i (s .left);
     rest = cmp-past i (asKind x a) (asKind y b) (key-long x a i (s .left)) (key-long y b i (s .right)) (key-take x a i (s .left) ∙ s .alike ∙ sym (key-take y b i (s .right)));
   }
+
+-- where two names differ, the one with the lower byte comes first
+shares-other : {a b : Bytes} {i : ℕ} → Shares a b i → Shares b a i
+shares-other s = record { left = s .right; right = s .left; alike = sym (s .alike); stop = λ p q e. s .stop q p (sym e) }
+
+pub lower-less : {a b : Bytes} → Lower a b → (x y : Bool) → Ordering·lt ≡ cmp (asKind x a) (asKind y b)
+lower-less {a} {b} l x y =
+    byte-less (shares-compare (l .shares) x y) (in-name a x (l .at) (l .left)) (in-name b y (l .at) (l .right)) (key-long x a (suc (l .at)) (l .left)) (key-long y b (suc (l .at)) (l .right)) (l .less)
+
+pub lower-greater : {a b : Bytes} → Lower b a → (x y : Bool) → Ordering·gt ≡ cmp (asKind x a) (asKind y b)
+lower-greater {a} {b} l x y =
+    byte-more (shares-compare (shares-other (l .shares)) x y) (in-name a x (l .at) (l .right)) (in-name b y (l .at) (l .left)) (key-long x a (suc (l .at)) (l .right)) (key-long y b (suc (l .at)) (l .left)) (l .less)
 
 -- Neither slash nor NUL: of a name, and of its parts.
 has-append : (c : ℕ) (a b : Bytes) → has c a ≡ false → has c (a ++ b) ≡ has c b

@@ -1,5 +1,5 @@
 -- Bytes as one number. Assumes nothing.
-use Prim.Native.Nat.{ℕ, zero, suc, _+_, _*_, _/_, _%_}
+use Prim.Native.Nat.{ℕ, zero, suc, _+_, _*_, _/_, _%_, _≤_}
 use mathlib.Core.Path.{_≡_}
 use mathlib.Core.List.{[], _∷_}
 use lib.ListN.{take, drop}
@@ -24,3 +24,9 @@ bytesOf (suc n) w = w % 256 ∷ bytesOf n (w / 256)
 pub record LowAt (s : Bytes) (k w : ℕ) : Type 0 where
   pub is : w ≡ lowNumber (take 8 (drop k s))
   pub back : bytesOf 8 w ≡ take 8 (drop k s)
+
+-- two names begin with i bytes alike, and the next eight differ where the first n bytes have eight more
+pub record AlikeTo (a b : Bytes) (n i : ℕ) : Type 0 where
+  pub within : i ≤ n
+  pub same : take i a ≡ take i b
+  pub stop : i + 8 ≤ n → take 8 (drop i a) ≡ take 8 (drop i b) → ⊥

@@ -5,10 +5,10 @@ ghost use Prim.Native.Nat.{_+_, _≤_};
 ghost use lib.ListN.{length, take, drop};
 ghost use Rattle.model.specs.Bytes.{same};
 ghost use Rattle.names.specs.Check.{plain};
-ghost use Rattle.names.specs.Eight.{number, bytesOf, LowAt};
+ghost use Rattle.names.specs.Eight.{number, bytesOf, LowAt, AlikeTo};
 
 // Eight bytes from k on as one number, the first the lowest.
-fn low_at(s: &[u8], k: usize) -> u64
+pub fn low_at(s: &[u8], k: usize) -> u64
     requires { ⌜ k + 8 ≤ length (now s) ⌝ }
     ensures { λ r. ⌜ LowAt (now (s .entry)) k r ⌝ }
 {
@@ -31,7 +31,7 @@ fn low_at(s: &[u8], k: usize) -> u64
 }
 
 // A number with its eight bytes turned around.
-fn swap(w: u64) -> u64
+pub fn swap(w: u64) -> u64
     ensures { λ r. ⌜ r ≡ number 0 (bytesOf 8 w) ⌝ }
 {
     (w % 256) * 72057594037927936
@@ -50,6 +50,21 @@ pub fn word_at(s: &[u8], k: usize) -> u64
     ensures { λ r. ⌜ r ≡ number 0 (take 8 (drop k (now (s .entry)))) ⌝ }
 {
     swap(low_at(s, k))
+}
+
+// How many of the first n bytes two names begin with alike, in eights.
+pub fn alike_front(a: &[u8], b: &[u8], n: usize) -> usize
+    requires { ⌜ (n ≤ length (now a)) × (n ≤ length (now b)) ⌝ }
+    ensures { λ r. ⌜ AlikeTo (now (a .entry)) (now (b .entry)) n r ⌝ }
+{
+    let mut i = 0;
+    while 8 <= n - i {
+        if low_at(a, i) != low_at(b, i) {
+            return i;
+        }
+        i += 8;
+    }
+    i
 }
 
 // Whether the eight bytes from k on are neither slash nor NUL.

@@ -13,14 +13,27 @@ use borrow.Author.Tests.{lt-ltb, ltb-true, ltb-false, leb-true, leb-false}
 use Rattle.model.specs.Bytes.{Bytes}
 use Rattle.model.specs.Tree.{Tree, goodName}
 use Rattle.names.specs.Check.{sizeOf, Lower, plain, FitsIs}
-use Rattle.names.specs.Eight.{number}
+use Rattle.names.specs.Eight.{number, bytesOf, LowAt}
 use Rattle.names_compact.specs.Judge.{endAt, endAs, heldAt, compactTree, nameHeld, treeBefore, Reached, Behind}
 use Rattle.names_compact.specs.declared.judge.End.{End}
 use Rattle.names_compact.specs.declared.judge.End.the-variants.{To}
-use Rattle.names.proofs.EightLaws.{lower-first, lower-last, low-take, tail-is}
+use Rattle.names.proofs.EightLaws.{lower-first, lower-at, number-same, low-take, tail-is, eight-more}
 use Rattle.names.proofs.FitLaws.{fit-apart, fit-first, check-begin, check-more, check-broken}
 use Rattle.names_compact.proofs.JudgeLaws.{Ends, compact-is, held-packs, read-ends, read-begins, read-name, read-reach, zero-is-tree}
 use Rattle.names.proofs.StandingLaws.{good-is, lower-apart}
+
+-- the first i bytes from two places on are alike
+pub record Together (b : Bytes) (p a i : ℕ) : Type 0 where
+  pub same : take i (drop p b) ≡ take i (drop a b)
+
+module _ {b : Bytes} {p a i : ℕ} (at : Together b p a i) where
+  pub together-to : (k : ℕ) → k ≤ i → take k (drop p b) ≡ take k (drop a b)
+  together-to k h = sym (take-take k i (drop p b) h) ∙ ap (take k) (at .same) ∙ take-take k i (drop a b) h
+
+  pub together-more : {x y : ℕ} → LowAt b (p + i) x → LowAt b (a + i) y → x ≡ y → Together b p a (i + 8)
+  together-more u v e = record {
+    same = eight-more i (drop p b) (drop a b) (at .same) (ap (take 8) (drop-drop i p b) ∙ sym (u .back) ∙ ap (bytesOf 8) e ∙ v .back ∙ ap (take 8) (sym (drop-drop i a b)));
+  }
 
 -- The names of two entries that stand next to each other.
 name-long : (b : Bytes) (w at next : ℕ) → next ≤ length b → length (nameHeld b w at next) ≡ next - (at + 2 + w)
@@ -46,10 +59,12 @@ module _ {b : Bytes} {w at next : ℕ} (e : Ends b w at next) (h : 8 ≤ length 
         let far = name-far in
         record { back = λ _. omega arith; long = λ _ _. name-word; short = λ _ g. absurd (omega arith) }
 
-name-tail : (b : Bytes) (w at next k : ℕ) → next ≡ at + 10 + w + k → take 8 (drop k (nameHeld b w at next)) ≡ take 8 (drop (next - 8) b)
-name-tail b w at next k e =
-    let z : at + 2 + w + k ≡ next - 8 = omega arith in
-    tail-is k 8 (next - (at + 2 + w)) (drop (at + 2 + w) b) (omega arith) ∙ ap (take 8) (drop-drop k (at + 2 + w) b ∙ ap (λ (m : ℕ). drop m b) z)
+-- eight bytes of a name, and those before them
+name-eight : (b : Bytes) (w at next k : ℕ) → at + 10 + w + k ≤ next → take 8 (drop k (nameHeld b w at next)) ≡ take 8 (drop (at + 2 + w + k) b)
+name-eight b w at next k h = tail-is k 8 (next - (at + 2 + w)) (drop (at + 2 + w) b) (omega arith) ∙ ap (take 8) (drop-drop k (at + 2 + w) b)
+
+name-front : (b : Bytes) (w at next k : ℕ) → at + 10 + w + k ≤ next → take k (nameHeld b w at next) ≡ take k (drop (at + 2 + w) b)
+name-front b w at next k h = take-take k (next - (at + 2 + w)) (drop (at + 2 + w) b) (omega arith)
 
 module _ (b : Bytes) (low : (i : ℕ) → getD b i 0 < 256) where
   name-low : (w at next i : ℕ) → getD (nameHeld b w at next) i 0 < 256
@@ -71,15 +86,22 @@ module _ (b : Bytes) (low : (i : ℕ) → getD b i 0 < 256) where
             lower-first 8 0 (nameHeld b w prev at) (nameHeld b w at next) (omega (arith, name-long b w prev at (omega arith))) (omega (arith, name-long b w at next inside)) (name-low w at next) (omega (arith, heads g, heads-next))
         go false e = absurd (omega (arith, s .short h (leb-false _ _ e)))
 
-    pub ahead-last : y ≡ x → at - prev ≡ next - at → next ≤ at + 18 + w → number 0 (take 8 (drop (at - 8) b)) < number 0 (take 8 (drop (next - 8) b)) → Lower (nameHeld b w prev at) (nameHeld b w at next)
-    ahead-last e d f t =
-        let back = s .back h in
-        let g : prev + 10 + w ≤ at = omega arith in
-        let k = next - (at + 10 + w) in
-        let p = name-tail b w prev at k (omega arith) in
-        let q = name-tail b w at next k (omega arith) in
-        lower-last k (nameHeld b w prev at) (nameHeld b w at next) (omega arith) (omega (arith, name-long b w prev at (omega arith))) (omega (arith, name-long b w at next inside))
-        (name-low w prev at) (name-low w at next) (sym (heads g) ∙ e ∙ heads-next) (rw (p, q) t)
+    -- names as long: where their heads are the same number they begin with eight alike, and eight bytes past those that are alike decide
+    module _ (d : at - prev ≡ next - at) where
+      pub heads-alike : y ≡ x → take 8 (drop (prev + 2 + w) b) ≡ take 8 (drop (at + 2 + w) b)
+      heads-alike e =
+          let back = s .back h in
+          let long : prev + 10 + w ≤ at = omega arith in
+          number-same 8 0 (drop (prev + 2 + w) b) (drop (at + 2 + w) b) (omega (arith, length-drop (prev + 2 + w) b)) (omega (arith, length-drop (at + 2 + w) b))
+          (λ i. rw (getD-drop (prev + 2 + w) b i 0) (low (prev + 2 + w + i))) (λ i. rw (getD-drop (at + 2 + w) b i 0) (low (at + 2 + w + i))) (sym (s .long h long) ∙ e ∙ ex)
+
+      pub ahead-past : (k : ℕ) → at + 10 + w + k ≤ next → take k (drop (prev + 2 + w) b) ≡ take k (drop (at + 2 + w) b) →
+          number 0 (take 8 (drop (prev + 2 + w + k) b)) < number 0 (take 8 (drop (at + 2 + w + k) b)) → Lower (nameHeld b w prev at) (nameHeld b w at next)
+      ahead-past k f q t =
+          let back = s .back h in
+          let g : prev + 10 + w + k ≤ at = omega arith in
+          lower-at k (nameHeld b w prev at) (nameHeld b w at next) (omega (arith, name-long b w prev at (omega arith))) (omega (arith, name-long b w at next inside)) (name-low w at next)
+          (name-front b w prev at k g ∙ q ∙ sym (name-front b w at next k f)) (rw (name-eight b w prev at k g, name-eight b w at next k f) t)
 
 -- Whether the entry before is a tree.
 pub tree-none : (b : Bytes) (prev at : ℕ) → at ≡ 0 → treeBefore b prev at ≡ false
@@ -94,6 +116,16 @@ pub name-none : (b : Bytes) (w prev at : ℕ) → at ≡ 0 → nameHeld b w prev
 name-none b w prev at h =
     let z : at - (prev + 2 + w) ≡ 0 = omega arith in
     rw z
+
+pub name-from : (b : Bytes) (w prev at p : ℕ) → p ≤ at → (0 < at → p ≡ prev + 2 + w) → take (at - p) (drop p b) ≡ nameHeld b w prev at
+name-from b w prev at p h e = go (ltb 0 at) refl
+  where
+    go : (t : Bool) → ltb 0 at ≡ t → take (at - p) (drop p b) ≡ nameHeld b w prev at
+    go true q = ap (λ (k : ℕ). take (at - k) (drop k b)) (e (ltb-true 0 at q))
+    go false q =
+        let z : at ≡ 0 = omega (arith, ltb-false 0 at q) in
+        let y : at - p ≡ 0 = omega arith in
+        rw y (sym (name-none b w prev at z))
 
 -- an entry fits whatever names are said for the one before it
 pub fits-as : {p q n : Bytes} {x y t : Bool} {later : Option Tree} {ok : Bool} → p ≡ q → x ≡ y → FitsIs p x n t later ok → FitsIs q y n t later ok

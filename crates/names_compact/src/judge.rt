@@ -96,7 +96,25 @@ fn may_follow(
     }
 }
 
-// Whether the name at `at` comes after the one before it by eight bytes: by the first, or, where these are alike and both names as long, by the last.
+// Which eight bytes tell apart two names that stand at p and at a and begin with eight alike: the first that differ, in eights, else the last.
+fn unlike(tree: &[u8], p: usize, a: usize, last: usize) -> usize
+    requires { ⌜ (p + last + 8 ≤ length (now tree)) × (a + last + 8 ≤ length (now tree)) × (take 8 (drop p (now tree)) ≡ take 8 (drop a (now tree))) ⌝ }
+    ensures { λ r. ⌜ (r ≤ last) × (take r (drop p (now (tree .entry))) ≡ take r (drop a (now (tree .entry)))) ⌝ }
+{
+    if last <= 8 {
+        return last;
+    }
+    let mut i = 8;
+    while i < last {
+        if names::eight::low_at(tree, p + i) != names::eight::low_at(tree, a + i) {
+            return i;
+        }
+        i += 8;
+    }
+    last
+}
+
+// Whether the name at `at` comes after the one before it by eight bytes: by the first, or, where these are alike and both names as long, by the first eight that differ or the last.
 fn ahead(tree: &[u8], width: usize, prev: usize, at: usize, next: usize, w: u64, x: u64) -> bool
     requires { ⌜ (at + 10 + width ≤ next) × (next ≤ length (now tree)) × Behind (now tree) width prev at w × (x ≡ number 0 (take 8 (drop (at + 2 + width) (now tree)))) ⌝ }
     ensures { λ r. ⌜ (r ≡ true → 0 < at → Lower (nameHeld (now (tree .entry)) width prev at) (nameHeld (now (tree .entry)) width at next)) ⌝ }
@@ -110,14 +128,13 @@ fn ahead(tree: &[u8], width: usize, prev: usize, at: usize, next: usize, w: u64,
     if at == 0 {
         return false;
     }
-    let n = next - at;
-    if at - prev != n {
+    if at - prev != next - at {
         return false;
     }
-    if 18 < n - width {
-        return false;
-    }
-    names::eight::word_at(tree, at - 8) < names::eight::word_at(tree, next - 8)
+    let p = prev + 2 + width;
+    let a = at + 2 + width;
+    let k = unlike(tree, p, a, next - a - 8);
+    names::eight::word_at(tree, p + k) < names::eight::word_at(tree, a + k)
 }
 
 // How far a check has come: the place of the next entry, that of the one before it, and what was counted.
@@ -179,15 +196,20 @@ fn run_past(tree: &[u8], width: usize, far: Far, first: u64) -> Far
     run_on(tree, width, far, first)
 }
 
+// Where the name of the entry before the one at `at` starts; none is before the first place.
+fn start_before(width: usize, prev: usize, at: usize) -> usize
+    requires { ⌜ (0 < at → prev + 2 + width ≤ at) ⌝ }
+    ensures { λ r. ⌜ (r ≤ at) × (0 < at → r ≡ prev + 2 + width) ⌝ }
+{
+    if at == 0 { 0 } else { prev + 2 + width }
+}
+
 // The name of the entry before the one at `at`, or nothing.
 fn name_before(tree: &[u8], width: usize, prev: usize, at: usize) -> &[u8]
     requires { ⌜ (at ≤ length (now tree)) × (0 < at → prev + 2 + width ≤ at) ⌝ }
     ensures { λ r. ⌜ now r ≡ nameHeld (now (tree .entry)) width prev at ⌝ }
 {
-    if at == 0 {
-        return &tree[..0];
-    }
-    let p = prev + 2 + width;
+    let p = start_before(width, prev, at);
     &tree[p..at]
 }
 

@@ -1,22 +1,19 @@
--- `names::order::shared` meets its contract: the bytes passed are alike, and the first that differ or an end stops it. Assumes nothing.
+-- `names::order::shared_from` meets its contract: the bytes passed are alike, and the first that differ or an end stops it. Assumes nothing.
 use borrow.Author.Needs.{needs}
 use Prim.Native.Nat.{_-_}
 use native.Mathlib.Omega.{arith}
 use Rattle.names.proofs.StandingLaws.{Alike, alike-begin, alike-more, alike-differ, alike-end}
-use Rattle.names.proofs.order.shared.Statement.{statement}
-use Rattle.names.proofs.order.shared.Tie as tie
+use Rattle.names.proofs.order.shared_from.Statement.{statement}
+use Rattle.names.proofs.order.shared_from.Tie as tie
 
 abbrev Inv-loop : tie.InvT-loop
-Inv-loop a b n i₀ i = Alike a b n i
+Inv-loop a b n from i₀ i = Alike a b n i
 
 abbrev μ-loop : tie.MeasureT-loop
-μ-loop a b n i₀ i = n - i
-
-shorter-requires : tie.Need-shorter-requires Inv-loop μ-loop
-shorter-requires c κs = search needs
+μ-loop a b n from i₀ i = n - i
 
 loop-holds : tie.Need-loop-holds Inv-loop μ-loop
-loop-holds c = alike-begin (c .shorter .ensures)
+loop-holds c = alike-begin (c .pre .0) (c .pre .1)
 
 shared-slice-read-if1 : tie.Need-shared-slice-read-if1 Inv-loop μ-loop
 shared-slice-read-if1 c =
@@ -43,13 +40,12 @@ loop-again c = alike-more (c .before .before .before .before .loop .inv) (c .bef
 returns-2 : tie.Need-returns-2 Inv-loop μ-loop
 returns-2 c = alike-end (c .before .loop .inv) (c .loop-test .left)
 
-pub shared-spec : {M : Type 1} → statement M
-shared-spec =
+pub shared-from-spec : {M : Type 1} → statement M
+shared-from-spec =
     tie.close
     (tie.spec
     Inv-loop
     μ-loop
-    shorter-requires
     loop-holds
     shared-slice-read-if1
     shared-slice-read-if1-2
