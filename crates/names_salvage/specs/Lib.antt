@@ -1,0 +1,4 @@
+pub mod Answers
+pub mod Examples
+pub mod Mending
+pub mod Pieces

@@ -1,0 +1,3 @@
+// A damaged tree mended: what can be read and kept of it, in order, and what was changed.
+pub mod piece;
+pub mod table;
