@@ -1,7 +1,7 @@
 // The small program: edits from records on standard input, and the trees of a write on standard output.
 use libc::STDIN_FILENO;
 use libc::STDOUT_FILENO;
-use small_records::text::Put;
+use lines::text::Put;
 
 fn main() {
     let mut input = [0u8; 65537];

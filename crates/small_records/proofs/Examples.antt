@@ -1,4 +1,4 @@
--- What the definition says of document 01's example and of inputs that break the form, by computing. Assumes nothing.
+-- What the definition says of the example in docs/RULES.md and of inputs that break the form, by computing. Assumes nothing.
 use Prim.Native.Nat.{ℕ, _<_}
 use mathlib.Core.Path.{_≡_, refl}
 use mathlib.Core.List.{List, [], _∷_, _++_, map}
@@ -8,9 +8,9 @@ use Rattle.model.specs.Bytes.{Bytes}
 use Rattle.model.specs.Tree.{BLOB}
 use Rattle.model.specs.Raw.{octal, modeOf}
 use Rattle.model.specs.Walk.{ANY, LEAF, remove, upsert}
-use Rattle.small_records.specs.Hex.{hexed, bytesOf, hexOf}
-use Rattle.small_records.specs.Texts.{decimalFrom, decimal, lineOf}
-use Rattle.small_records.specs.Records.{lines, opKey, pathKey, kindKey, idKey, upsertWord, removeWord, leafWord, said, verbOf, opOf, goodId, step, bad, good, read, reading}
+use Rattle.lines.specs.Hex.{hexed, bytesOf}
+use Rattle.lines.specs.Lines.{lines, said}
+use Rattle.small_records.specs.Records.{opKey, pathKey, kindKey, idKey, upsertWord, removeWord, leafWord, verbOf, opOf, goodId, step, bad, good, read, reading}
 
 -- a line: key, value, newline
 abbrev line : Bytes → Bytes → Bytes
@@ -87,15 +87,3 @@ the-broken = refl
 pub the-long : (w : ℕ) (input : Bytes) → 65536 < length input → reading w input ≡ bad 0
 unfolding reading
 the-long w input h = rw (lt-leb (length input) 65536 h)
-
--- numbers in decimal, and the lines `tree=61` and `bad=12`
-pub the-numbers : map decimal (0 ∷ 7 ∷ 10 ∷ 13 ∷ 65537 ∷ 18446744073709551615 ∷ [])
-    ≡ (48 ∷ []) ∷ (55 ∷ []) ∷ (49 ∷ 48 ∷ []) ∷ (49 ∷ 51 ∷ []) ∷ (54 ∷ 53 ∷ 53 ∷ 51 ∷ 55 ∷ [])
-    ∷ (49 ∷ 56 ∷ 52 ∷ 52 ∷ 54 ∷ 55 ∷ 52 ∷ 52 ∷ 48 ∷ 55 ∷ 51 ∷ 55 ∷ 48 ∷ 57 ∷ 53 ∷ 53 ∷ 49 ∷ 54 ∷ 49 ∷ 53 ∷ []) ∷ []
-unfolding decimal decimalFrom
-the-numbers = refl
-
-pub the-lines : lineOf (116 ∷ 114 ∷ 101 ∷ 101 ∷ []) (hexOf (97 ∷ [])) ∷ lineOf (98 ∷ 97 ∷ 100 ∷ []) (decimal 12) ∷ []
-    ≡ (116 ∷ 114 ∷ 101 ∷ 101 ∷ 61 ∷ 54 ∷ 49 ∷ 10 ∷ []) ∷ (98 ∷ 97 ∷ 100 ∷ 61 ∷ 49 ∷ 50 ∷ 10 ∷ []) ∷ []
-unfolding decimal decimalFrom hexOf
-the-lines = refl

@@ -10,8 +10,9 @@ use borrow.Author.Tests.{eq-eqb}
 use Rattle.model.specs.Bytes.{Bytes}
 use Rattle.model.specs.Tree.{TREE}
 use Rattle.model.specs.Raw.{octal, modeOf}
-use Rattle.small_records.specs.Hex.{hexed, bytesOf}
-use Rattle.small_records.specs.Records.{Line, whole, cut, pathKey, kindKey, idKey, said, Verb, adds, takes, Op, put, drops, opOf, goodId, editOf, EditRecord, Stage, atOp, atPath, atKind, atId, Step, on, done, wrong, step, Read, bad, good, more, ended, stepped, read}
+use Rattle.lines.specs.Hex.{hexed, bytesOf}
+use Rattle.lines.specs.Lines.{Line, whole, cut, said}
+use Rattle.small_records.specs.Records.{pathKey, kindKey, idKey, Verb, adds, takes, Op, put, drops, opOf, goodId, editOf, EditRecord, Stage, atOp, atPath, atKind, atId, Step, on, done, wrong, step, Read, bad, good, more, ended, stepped, read}
 
 -- w bytes of zeros in hex
 abbrev zeros : ℕ → Bytes

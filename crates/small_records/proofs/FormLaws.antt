@@ -11,11 +11,13 @@ use borrow.Author.Tests.{lt-leb, le-leb, eqb-true}
 use Rattle.model.specs.Bytes.{Bytes}
 use Rattle.model.specs.Tree.{Mode}
 use Rattle.model.proofs.Basics.{and-left, and-right}
-use Rattle.small_records.specs.Hex.{hexed, bytesOf}
-use Rattle.small_records.specs.Records.{lines, Verb, Op, put, goodId, EditRecord, atOp, Read, bad, good, more, read, reading, Form, badLine, records, formOf}
-use Rattle.small_records.specs.Places.{Part, textAt, past, Told, opAt, pathAt, kindAt, idAt, Found, recordFound, Next, nothing, broken, found, orBroken, nextAt}
+use Rattle.lines.specs.Hex.{hexed, bytesOf}
+use Rattle.lines.specs.Lines.{lines}
+use Rattle.small_records.specs.Records.{Verb, Op, put, goodId, EditRecord, atOp, Read, bad, good, more, read, reading, Form, badLine, records, formOf}
+use Rattle.lines.specs.Places.{Part, textAt, past, Told}
+use Rattle.small_records.specs.Places.{opAt, pathAt, kindAt, idAt, Found, recordFound, Next, nothing, broken, found, orBroken, nextAt}
 use Rattle.small_records.proofs.NextLaws.{at-end, path-parts, id-parts, op-inside, path-inside, kind-inside, id-inside}
-use Rattle.small_records.proofs.TextLaws.{length-bytes}
+use Rattle.lines.proofs.TextLaws.{length-bytes}
 use Rattle.small_records.proofs.ReadLaws.{follow, next-reads}
 
 -- A record that was found at a place: it ends after the place, its digits stand within the input, and they are what the definition asks for

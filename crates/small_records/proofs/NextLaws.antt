@@ -1,17 +1,17 @@
 -- Laws of the record at a place: its four lines decide, one after the other. Assumes nothing.
 use Prim.Native.Nat.{ℕ, _+_, _≤_, _<_}
-use mathlib.Core.Path.{_≡_, refl, sym, ap, _∙_}
-use mathlib.Core.Bool.{Bool, true, false, cond}
-use mathlib.Core.Option.{Option, none, some}
+use mathlib.Core.Path.{_≡_, sym, ap, _∙_}
+use mathlib.Core.Bool.{true, cond}
+use mathlib.Core.Option.{none, some}
 use native.Mathlib.Omega.{arith}
 use lib.ListN.{length}
 use borrow.Author.Tests.{le-leb, lt-leb}
 use Rattle.model.specs.Bytes.{Bytes}
-use Rattle.model.proofs.Basics.{none-some, some-inj}
-use Rattle.small_records.specs.Hex.{hexed}
+use Rattle.lines.specs.Hex.{hexed}
 use Rattle.small_records.specs.Records.{opKey, pathKey, kindKey, idKey, Verb, verbOf, Op, opOf, goodId}
-use Rattle.small_records.specs.Places.{Part, textAt, past, valueAt, Told, told, bind, opAt, pathAt, kindAt, idAt, nothing, broken, found, nextAt}
-use Rattle.small_records.proofs.PlaceLaws.{value-inside}
+use Rattle.lines.specs.Places.{Part, textAt, past, valueAt, Told, told}
+use Rattle.small_records.specs.Places.{opAt, pathAt, kindAt, idAt, nothing, broken, found, nextAt}
+use Rattle.lines.proofs.PlaceLaws.{value-inside, value-of, told-of, if-of}
 
 module _ (w : ℕ) (s : Bytes) (at : ℕ) where
   pub at-end : length s ≤ at → nothing ≡ nextAt w s at
@@ -44,20 +44,6 @@ module _ (w : ℕ) (s : Bytes) (at : ℕ) where
           whole-record e = rw (lt-leb (length s) at h, eo, ep, ek, e)
 
 -- Where the lines end
-pub value-of : {A B : Type 0} (x : Option A) (f : A → Option B) (b : B) → bind x f ≡ some b → (a : A) × (x ≡ some a) × (f a ≡ some b)
-value-of none f b e = none-some b e
-value-of (some a) f b e = (a, refl, e)
-
-pub told-of : {A : Type 0} (o : Option A) (n : ℕ) (t : Told A) → told o n ≡ some t → (o ≡ some (t .what)) × (n ≡ t .next)
-told-of none n t e = none-some t e
-told-of {A} (some a) n t e =
-    let q = some-inj (record { what = a; next = n }) t e in
-    (ap (λ (x : Told A). some (x .what)) q, ap (λ (x : Told A). x .next) q)
-
-pub if-of : {A : Type 0} (b : Bool) (x y : A) → cond b (some x) none ≡ some y → (b ≡ true) × (x ≡ y)
-if-of true x y e = (refl, some-inj x y e)
-if-of false x y e = none-some y e
-
 module _ (s : Bytes) (at : ℕ) where
   pub op-parts : {t : Told Verb} → opAt s at ≡ some t → (p : Part) × (valueAt opKey s at ≡ some p) × ((verbOf (textAt s p) ≡ some (t .what)) × (past p ≡ t .next))
   unfolding opAt

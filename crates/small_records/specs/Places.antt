@@ -1,47 +1,13 @@
 -- Where a record stands in the input: the same lines, by places. Assumes nothing.
-use Prim.Native.Nat.{ℕ, _+_, _-_}
+use Prim.Native.Nat.{ℕ}
 use mathlib.Core.Bool.{cond}
 use mathlib.Core.Option.{Option, none, some}
-use lib.Dec.{leb, ltb}
-use lib.ListN.{length, take, drop}
+use lib.Dec.{leb}
+use lib.ListN.{length}
 use Rattle.model.specs.Bytes.{Bytes}
-use Rattle.names.specs.Places.{indexOf}
-use Rattle.small_records.specs.Hex.{hexed, bytesOf}
-use Rattle.small_records.specs.Records.{starts, opKey, pathKey, kindKey, idKey, Verb, verbOf, Op, opOf, goodId, editOf, EditRecord}
-
--- a part of the input, the bytes there, and the place after the newline that follows it
-pub record Part : Type 0 where
-  pub at : ℕ
-  pub len : ℕ
-
-abbrev pub textAt : Bytes → Part → Bytes
-textAt s p = take (p .len) (drop (p .at) s)
-
-abbrev pub past : Part → ℕ
-past p = p .at + p .len + 1
-
--- how long the line at a place is, and where its value stands, if a newline ends it and it begins with the key
-abbrev pub lineLen : Bytes → ℕ → ℕ
-lineLen s at = indexOf 10 (drop at s)
-
-unfoldable pub valueAt : Bytes → Bytes → ℕ → Option Part
-valueAt key s at =
-    cond (ltb (lineLen s at) (length (drop at s)))
-    (cond (starts key (take (lineLen s at) (drop at s))) (some (record { at = at + length key; len = lineLen s at - length key })) none)
-    none
-
--- what a line says, and where the next one starts
-pub record Told (A : Type 0) : Type 0 where
-  pub what : A
-  pub next : ℕ
-
-abbrev pub told : {A : Type 0} → Option A → ℕ → Option (Told A)
-told none n = none
-told (some a) n = some (record { what = a; next = n })
-
-abbrev pub bind : {A B : Type 0} → Option A → (A → Option B) → Option B
-bind none f = none
-bind (some a) f = f a
+use Rattle.lines.specs.Hex.{hexed, bytesOf}
+use Rattle.lines.specs.Places.{Part, textAt, past, valueAt, Told, told, bind}
+use Rattle.small_records.specs.Records.{opKey, pathKey, kindKey, idKey, Verb, verbOf, Op, opOf, goodId, editOf, EditRecord}
 
 -- the four lines of a record, each at a place
 unfoldable pub opAt : Bytes → ℕ → Option (Told Verb)

@@ -4,26 +4,13 @@ use mathlib.Core.List.{List, [], _∷_}
 use mathlib.Core.Bool.{Bool, cond, _&&_}
 use mathlib.Core.Option.{Option, none, some}
 use lib.Dec.{leb, eqb}
-use lib.ListN.{length, take, drop}
+use lib.ListN.{length}
 use Rattle.model.specs.Bytes.{Bytes, same, isNil}
 use Rattle.model.specs.Tree.{Mode}
 use Rattle.model.specs.Raw.{modeOf}
 use Rattle.model.specs.Walk.{RemoveKind, ANY, LEAF, Edit, remove, upsert}
-use Rattle.small_records.specs.Hex.{hexed, bytesOf}
-
--- A line is the bytes before its newline (10). Bytes after the last newline are a line too, which none ends: it breaks the form wherever it stands.
-pub data Line : Type 0 where
-  whole : Bytes → Line
-  cut : Line
-
-abbrev pub ontoLine : ℕ → List Line → List Line
-ontoLine b [] = cut ∷ []
-ontoLine b (whole l ∷ ls) = whole (b ∷ l) ∷ ls
-ontoLine b (cut ∷ ls) = cut ∷ ls
-
-unfoldable pub lines : Bytes → List Line
-lines [] = []
-lines (b ∷ bs) = let r = lines bs in cond (eqb b 10) (whole [] ∷ r) (ontoLine b r)
+use Rattle.lines.specs.Hex.{hexed, bytesOf}
+use Rattle.lines.specs.Lines.{Line, whole, cut, lines, said}
 
 -- `op=`, `path=`, `kind=`, `id=`; `upsert`, `remove`, `leaf`
 abbrev pub opKey : Bytes
@@ -46,13 +33,6 @@ removeWord = 114 ∷ 101 ∷ 109 ∷ 111 ∷ 118 ∷ 101 ∷ []
 
 abbrev pub leafWord : Bytes
 leafWord = 108 ∷ 101 ∷ 97 ∷ 102 ∷ []
-
--- what a line says after its key, if it begins with that
-abbrev pub starts : Bytes → Bytes → Bool
-starts key l = same (take (length key) l) key
-
-unfoldable pub said : Bytes → Bytes → Option Bytes
-said key l = cond (starts key l) (some (drop (length key) l)) none
 
 -- What an `op=` line says
 pub data Verb : Type 0 where

@@ -2,7 +2,7 @@
 ghost use mathlib.Core.Path.{_≡_};
 ghost use Rattle.small_records.specs.Answers.{asForm};
 ghost use Rattle.small_records.specs.Records.{formOf, reading};
-use crate::record::Next;
+use crate::record::RecordRead;
 
 // The first line that breaks the form, or how many records there are.
 pub enum Form {
@@ -21,7 +21,7 @@ pub fn first_bad(input: &[u8], width: usize) -> Form
     let mut count = 0;
     while at < input.len() {
         match crate::record::next_record(input, at, width) {
-            Next::EditRecord {
+            RecordRead::EditRecord {
                 op: _,
                 path_at: _,
                 path_len: _,
@@ -32,10 +32,10 @@ pub fn first_bad(input: &[u8], width: usize) -> Form
                 at = next;
                 count += 1;
             }
-            Next::Bad(k) => {
+            RecordRead::Bad(k) => {
                 return Form::Bad(4 * count + 1 + k);
             }
-            Next::End => {
+            RecordRead::End => {
                 return Form::Good(count);
             }
         }

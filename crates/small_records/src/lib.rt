@@ -1,6 +1,3 @@
-// The small program's input and output, over slices. What the program reads and writes is defined in specs/.
+// The small program's input: records of four lines, over slices. What the program reads is defined in specs/.
 pub mod form;
-pub mod hex;
-pub mod line;
 pub mod record;
-pub mod text;

@@ -1,9 +1,10 @@
 // Records of four lines, by the places where their parts stand.
 ghost use mathlib.Core.Path.{_≡_};
-ghost use Rattle.small_records.specs.Answers.{valueRead, asVerb, verbRead, opLine, asOp, opRead, kindLine, nextRead};
+ghost use Rattle.lines.specs.Answers.{valueRead};
+ghost use Rattle.small_records.specs.Answers.{asVerb, verbRead, opLine, asOp, opRead, kindLine, nextRead};
 ghost use Rattle.small_records.specs.Places.{opAt, pathAt, kindAt, idAt, nextAt};
 ghost use Rattle.small_records.specs.Records.{verbOf, opOf, goodId};
-use crate::line::Value;
+use lines::line::Value;
 use names::mode::EntryKind;
 use names::mode::Mode;
 use names::mode::ModeRead;
@@ -44,7 +45,7 @@ pub enum KindLine {
 
 // What stands at a place: a record, with the digits of its path and of its id, and the place after it; lines that break the form, the first of them by
 // its number in the record, from 0; or the end.
-pub enum Next {
+pub enum RecordRead {
     EditRecord {
         op: Op,
         path_at: usize,
@@ -77,7 +78,7 @@ fn verb_of(text: &[u8]) -> VerbRead
 fn op_at(input: &[u8], at: usize) -> OpLine
     ensures { λ r. ⌜ opLine r ≡ opAt (now (input .entry)) at ⌝ }
 {
-    match crate::line::value_at(input, at, b"op=") {
+    match lines::line::value_at(input, at, b"op=") {
         Value::At { at, len } => match verb_of(names::part::between(input, at, len)) {
             VerbRead::Verb(verb) => OpLine::Line {
                 verb,
@@ -93,9 +94,9 @@ fn op_at(input: &[u8], at: usize) -> OpLine
 fn path_at(input: &[u8], at: usize) -> Value
     ensures { λ r. ⌜ valueRead r ≡ pathAt (now (input .entry)) at ⌝ }
 {
-    match crate::line::value_at(input, at, b"path=") {
+    match lines::line::value_at(input, at, b"path=") {
         Value::At { at, len } => {
-            if crate::hex::is_hex(names::part::between(input, at, len)) {
+            if lines::hex::is_hex(names::part::between(input, at, len)) {
                 Value::At { at, len }
             } else {
                 Value::Broken
@@ -135,7 +136,7 @@ fn op_of(verb: Verb, text: &[u8]) -> OpRead
 fn kind_at(input: &[u8], verb: Verb, at: usize) -> KindLine
     ensures { λ r. ⌜ kindLine r ≡ kindAt (now (input .entry)) (asVerb verb) at ⌝ }
 {
-    match crate::line::value_at(input, at, b"kind=") {
+    match lines::line::value_at(input, at, b"kind=") {
         Value::At { at, len } => match op_of(verb, names::part::between(input, at, len)) {
             OpRead::Op(op) => KindLine::Line {
                 op,
@@ -153,7 +154,7 @@ fn id_ok(width: usize, op: Op, text: &[u8]) -> bool
 {
     match op {
         Op::Upsert(_) => {
-            if crate::hex::is_hex(text) {
+            if lines::hex::is_hex(text) {
                 text.len() / 2 == width
             } else {
                 false
@@ -168,7 +169,7 @@ fn id_ok(width: usize, op: Op, text: &[u8]) -> bool
 fn id_at(width: usize, input: &[u8], op: Op, at: usize) -> Value
     ensures { λ r. ⌜ valueRead r ≡ idAt width (now (input .entry)) (asOp op) at ⌝ }
 {
-    match crate::line::value_at(input, at, b"id=") {
+    match lines::line::value_at(input, at, b"id=") {
         Value::At { at, len } => {
             if id_ok(width, op, names::part::between(input, at, len)) {
                 Value::At { at, len }
@@ -181,33 +182,33 @@ fn id_at(width: usize, input: &[u8], op: Op, at: usize) -> Value
 }
 
 // The record at a place, for ids of so many bytes.
-pub fn next_record(input: &[u8], at: usize, width: usize) -> Next
+pub fn next_record(input: &[u8], at: usize, width: usize) -> RecordRead
     ensures { λ r. ⌜ nextRead r ≡ nextAt width (now (input .entry)) at ⌝ }
 {
     if input.len() <= at {
-        return Next::End;
+        return RecordRead::End;
     }
     let OpLine::Line { verb, next } = op_at(input, at) else {
-        return Next::Bad(0);
+        return RecordRead::Bad(0);
     };
     let Value::At {
         at: path_at,
         len: path_len,
     } = path_at(input, next)
     else {
-        return Next::Bad(1);
+        return RecordRead::Bad(1);
     };
     let KindLine::Line { op, next: id_line } = kind_at(input, verb, path_at + path_len + 1) else {
-        return Next::Bad(2);
+        return RecordRead::Bad(2);
     };
     let Value::At {
         at: id_at,
         len: id_len,
     } = id_at(width, input, op, id_line)
     else {
-        return Next::Bad(3);
+        return RecordRead::Bad(3);
     };
-    Next::EditRecord {
+    RecordRead::EditRecord {
         op,
         path_at,
         path_len,

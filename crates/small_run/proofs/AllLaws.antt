@@ -9,7 +9,8 @@ use borrow.Author.Tests.{lt-leb}
 use Rattle.model.specs.Bytes.{Bytes}
 use Rattle.model.specs.Editor.{Editor}
 use Rattle.editor.specs.Lent.{Lent, Good, viewed}
-use Rattle.small_records.specs.Places.{Found, Next, nothing, broken, found, past, orBroken, opAt, pathAt, kindAt, idAt, nextAt, recordFound}
+use Rattle.lines.specs.Places.{past}
+use Rattle.small_records.specs.Places.{Found, Next, nothing, broken, found, orBroken, opAt, pathAt, kindAt, idAt, nextAt, recordFound}
 use Rattle.small_records.specs.Records.{EditRecord, good as goodInput, reading}
 use Rattle.small_records.proofs.FormLaws.{standing, Left, left-begin, left-more, left-end, left-good}
 use Rattle.small_records.proofs.NextLaws.{at-end}

@@ -1,4 +1,4 @@
--- What the definition says of document 01's example, byte for byte, of an input with a refused edit, of one with a bad line and of an empty one, by computing. Assumes nothing.
+-- What the definition says of the example in docs/RULES.md, byte for byte, of an input with a refused edit, of one with a bad line and of an empty one, by computing. Assumes nothing.
 use mathlib.Core.Path.{_≡_, refl}
 use mathlib.Core.List.{[], _∷_}
 use Rattle.model.specs.Bytes.{Bytes}
@@ -12,9 +12,10 @@ use Rattle.model.specs.Walk.{through, toRemove, removed, atLast, atEarlier, tur
 use Rattle.model.specs.Calls.{refuseIf, settled, edited, rootOnly}
 use Rattle.model.specs.Write.{unlinked, linked, finished, taken, noTree, asking, writeOf, begunAt, begun, closed, answeredIn, answered, requested}
 use Rattle.editor_terms.specs.Ids.{wordBytes}
-use Rattle.small_records.specs.Hex.{hexed, bytesOf, hexOf}
-use Rattle.small_records.specs.Records.{lines, said, verbOf, opOf, goodId, step, read, reading}
-use Rattle.small_records.specs.Texts.{decimalFrom, decimal}
+use Rattle.lines.specs.Hex.{hexed, bytesOf, hexOf}
+use Rattle.lines.specs.Lines.{lines, said}
+use Rattle.small_records.specs.Records.{verbOf, opOf, goodId, step, read, reading}
+use Rattle.lines.specs.Texts.{decimalFrom, decimal}
 use Rattle.small_run.specs.Lesson.{refusal, recordLines, afterRecords, countId, requestLines, writeLines, saved, output}
 
 -- the definitions that the computing looks through
@@ -31,7 +32,7 @@ example = 111 ∷ 112 ∷ 61 ∷ 117 ∷ 112 ∷ 115 ∷ 101 ∷ 114 ∷ 116 ∷
     ∷ 107 ∷ 105 ∷ 110 ∷ 100 ∷ 61 ∷ 49 ∷ 48 ∷ 48 ∷ 54 ∷ 52 ∷ 52 ∷ 10
     ∷ 105 ∷ 100 ∷ 61 ∷ 49 ∷ 49 ∷ 49 ∷ 49 ∷ 49 ∷ 49 ∷ 49 ∷ 49 ∷ 49 ∷ 49 ∷ 49 ∷ 49 ∷ 49 ∷ 49 ∷ 49 ∷ 49 ∷ 49 ∷ 49 ∷ 49 ∷ 49 ∷ 49 ∷ 49 ∷ 49 ∷ 49 ∷ 49 ∷ 49 ∷ 49 ∷ 49 ∷ 49 ∷ 49 ∷ 49 ∷ 49 ∷ 49 ∷ 49 ∷ 49 ∷ 49 ∷ 49 ∷ 49 ∷ 49 ∷ 49 ∷ 10 ∷ []
 
--- the five lines that document 01 prints
+-- the five lines of that example
 pub the-example : output example ≡ 116 ∷ 114 ∷ 101 ∷ 101 ∷ 61 ∷ 54 ∷ 49 ∷ 10
     ∷ 114 ∷ 97 ∷ 119 ∷ 61 ∷ 51 ∷ 49 ∷ 51 ∷ 48 ∷ 51 ∷ 48 ∷ 51 ∷ 54 ∷ 51 ∷ 52 ∷ 51 ∷ 52 ∷ 50 ∷ 48 ∷ 54 ∷ 50 ∷ 48 ∷ 48 ∷ 49 ∷ 49 ∷ 49 ∷ 49 ∷ 49 ∷ 49 ∷ 49 ∷ 49 ∷ 49 ∷ 49 ∷ 49 ∷ 49 ∷ 49 ∷ 49 ∷ 49 ∷ 49 ∷ 49 ∷ 49 ∷ 49 ∷ 49 ∷ 49 ∷ 49 ∷ 49 ∷ 49 ∷ 49 ∷ 49 ∷ 49 ∷ 49 ∷ 49 ∷ 49 ∷ 49 ∷ 49 ∷ 49 ∷ 49 ∷ 49 ∷ 49 ∷ 49 ∷ 49 ∷ 49 ∷ 49 ∷ 10
     ∷ 116 ∷ 114 ∷ 101 ∷ 101 ∷ 61 ∷ 10

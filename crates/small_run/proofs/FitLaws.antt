@@ -20,14 +20,15 @@ use Rattle.model.specs.Order.{All}
 use Rattle.model.specs.Script.{noTable}
 use Rattle.model.specs.Valid.{valid}
 use Rattle.model.proofs.Theorems.{edit-valid, begin-valid, new-valid}
-use Rattle.small_records.specs.Hex.{hexed, bytesOf}
-use Rattle.small_records.specs.Records.{Line, whole, cut, ontoLine, lines, opKey, pathKey, kindKey, idKey, starts, said, Verb, verbOf, Op, put, drops, opOf, goodId, editOf, EditRecord, Stage, atOp, atPath, atKind, atId, Step, on, done, wrong, orWrong, step, Read, bad, good, more, ended, stepped, read, reading, formOf}
-use Rattle.small_records.specs.Texts.{decimalFrom, decimal, lineOf}
-use Rattle.small_records.specs.declared.text.Put.{Put}
-use Rattle.small_records.specs.declared.text.Put.the-variants.{At, Refused}
+use Rattle.lines.specs.Hex.{hexed, bytesOf}
+use Rattle.lines.specs.Lines.{Line, whole, cut, ontoLine, lines, starts, said}
+use Rattle.small_records.specs.Records.{opKey, pathKey, kindKey, idKey, Verb, verbOf, Op, put, drops, opOf, goodId, editOf, EditRecord, Stage, atOp, atPath, atKind, atId, Step, on, done, wrong, orWrong, step, Read, bad, good, more, ended, stepped, read, reading, formOf}
+use Rattle.lines.specs.Texts.{decimalFrom, decimal, lineOf}
+use Rattle.lines.specs.declared.text.Put.{Put}
+use Rattle.lines.specs.declared.text.Put.the-variants.{At, Refused}
 use Rattle.small_records.proofs.FormLaws.{id-wide, left-begin}
-use Rattle.small_records.proofs.PlaceLaws.{starts-long}
-use Rattle.small_records.proofs.TextLaws.{line-long}
+use Rattle.lines.proofs.PlaceLaws.{starts-long}
+use Rattle.lines.proofs.TextLaws.{line-long}
 use Rattle.small_run.specs.Lesson.{badKey, editKey, codeKey, madeBy, refusal, recordLines, afterRecords, saved, outputOf, output}
 use Rattle.small_run.specs.Puts.{Puts}
 use Rattle.small_run.proofs.RoomLaws.{lines-room, weight-few}

@@ -13,10 +13,10 @@ use Rattle.model.proofs.Basics.{none-some, some-none, some-inj}
 use Rattle.names.specs.Splice.{splice}
 use Rattle.names.proofs.WriteLaws.{length-splice}
 use Rattle.names.proofs.FrontLaws.{splice-after}
-use Rattle.small_records.specs.Answers.{outcome}
-use Rattle.small_records.specs.Texts.{Written, written}
-use Rattle.small_records.specs.declared.text.Put.{Put}
-use Rattle.small_records.specs.declared.text.Put.the-variants.{At, Refused}
+use Rattle.lines.specs.Answers.{outcome}
+use Rattle.lines.specs.Texts.{Written, written}
+use Rattle.lines.specs.declared.text.Put.{Put}
+use Rattle.lines.specs.declared.text.Put.the-variants.{At, Refused}
 use Rattle.small_run.specs.Puts.{PutAt, Puts}
 
 -- the bytes after a write

@@ -17,15 +17,16 @@ use Rattle.model.specs.Walk.{Edit}
 use Rattle.names.specs.Splice.{splice}
 use Rattle.names.proofs.WriteLaws.{splice-front}
 use Rattle.editor.specs.Lent.{Lent, Good, viewed, Does}
-use Rattle.small_records.specs.Answers.{outcome}
-use Rattle.small_records.specs.Hex.{hexed, bytesOf}
-use Rattle.small_records.specs.Places.{textAt, Found, nothing, broken, found, nextAt, recordFound}
+use Rattle.lines.specs.Answers.{outcome}
+use Rattle.lines.specs.Hex.{hexed, bytesOf}
+use Rattle.lines.specs.Places.{textAt}
+use Rattle.small_records.specs.Places.{Found, nothing, broken, found, nextAt, recordFound}
 use Rattle.small_records.specs.Records.{editOf, goodId}
-use Rattle.small_records.specs.Texts.{Written, decimal, lineOf, written, decoded}
-use Rattle.small_records.specs.declared.text.Put.{Put}
-use Rattle.small_records.specs.declared.text.Put.the-variants.{At, Refused}
+use Rattle.lines.specs.Texts.{Written, decimal, lineOf, written, decoded}
+use Rattle.lines.specs.declared.text.Put.{Put}
+use Rattle.lines.specs.declared.text.Put.the-variants.{At, Refused}
 use Rattle.small_records.proofs.FormLaws.{standing}
-use Rattle.small_records.proofs.TextLaws.{length-bytes}
+use Rattle.lines.proofs.TextLaws.{length-bytes}
 use Rattle.small_run.specs.Lesson.{editKey, codeKey, refusal, madeBy}
 use Rattle.small_run.specs.Puts.{PutAt, Puts, Leaves}
 use Rattle.small_run.proofs.PutLaws.{out-of, put-nothing, both-put, first-stops}

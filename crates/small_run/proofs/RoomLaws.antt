@@ -24,9 +24,9 @@ use Rattle.model.proofs.ValidLaws.{raw-length}
 use Rattle.model.proofs.ValidSums.{total-append, total-reverse, one, isAt, itsEntries, itsNames, itsPath, Sane, is-good}
 use Rattle.model.proofs.WriteKeeps.{valid-ask, sum3}
 use Rattle.editor_terms.specs.Ids.{wordBytes}
-use Rattle.small_records.specs.Hex.{hexOf}
-use Rattle.small_records.specs.Texts.{lineOf}
-use Rattle.small_records.proofs.TextLaws.{line-long, length-hex}
+use Rattle.lines.specs.Hex.{hexOf}
+use Rattle.lines.specs.Texts.{lineOf}
+use Rattle.lines.proofs.TextLaws.{line-long, length-hex}
 use Rattle.small_run.specs.Lesson.{treeKey, rawKey, rootKey, countId, requestLines, writeLines}
 use Rattle.small_run.proofs.SaveLaws.{wide, pending, pending-less, more-lines, last-line}
 

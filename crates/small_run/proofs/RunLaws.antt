@@ -14,9 +14,10 @@ use Rattle.model.specs.Raw.{ended as atEnd, readTree}
 use Rattle.model.specs.Tree.{wellFormed}
 use Rattle.editor.specs.Lent.{Lent, Long, Good, viewed}
 use Rattle.editor.specs.Roots.{Makes}
-use Rattle.small_records.specs.Records.{EditRecord, Read, bad, good as goodInput, lines, atOp, read, reading, badLine, records, formOf}
-use Rattle.small_records.specs.Texts.{decimal, lineOf}
-use Rattle.small_records.specs.declared.text.Put.{Put}
+use Rattle.lines.specs.Lines.{lines}
+use Rattle.small_records.specs.Records.{EditRecord, Read, bad, good as goodInput, atOp, read, reading, badLine, records, formOf}
+use Rattle.lines.specs.Texts.{decimal, lineOf}
+use Rattle.lines.specs.declared.text.Put.{Put}
 use Rattle.small_run.specs.Lesson.{badKey, recordLines, afterRecords, saved, outputOf, output}
 use Rattle.small_run.specs.Puts.{PutAt, Puts}
 use Rattle.small_run.proofs.PutLaws.{puts-then}

@@ -29,10 +29,10 @@ use Rattle.editor.specs.declared.cursor.Cursor.{Cursor}
 use Rattle.editor.specs.Looks.{cursorAt}
 use Rattle.editor_write.proofs.Theorems.{viewed-valid}
 use Rattle.editor_write.specs.Requests.{shownAs, placeIn, Requests}
-use Rattle.small_records.specs.Hex.{hexOf}
-use Rattle.small_records.specs.Answers.{outcome}
-use Rattle.small_records.specs.Texts.{lineOf, written}
-use Rattle.small_records.specs.declared.text.Put.{Put}
+use Rattle.lines.specs.Hex.{hexOf}
+use Rattle.lines.specs.Answers.{outcome}
+use Rattle.lines.specs.Texts.{lineOf, written}
+use Rattle.lines.specs.declared.text.Put.{Put}
 use Rattle.small_run.specs.Lesson.{treeKey, rawKey, rootKey, countId, requestLines, orRoot, writeLines, saved}
 use Rattle.small_run.specs.Puts.{PutAt, Puts, Leaves}
 use Rattle.small_run.proofs.PutLaws.{puts, Telling, telling-begin, telling-more, telling-refused, telling-last}

@@ -13,9 +13,9 @@ use Rattle.model.specs.Calls.{Answer, edited, rootOnly}
 use Rattle.model.specs.Write.{begun, requested, answered}
 use Rattle.model.specs.Script.{noTable}
 use Rattle.editor_terms.specs.Ids.{wordBytes}
-use Rattle.small_records.specs.Hex.{hexOf}
+use Rattle.lines.specs.Hex.{hexOf}
 use Rattle.small_records.specs.Records.{EditRecord, Read, bad, good, reading}
-use Rattle.small_records.specs.Texts.{decimal, lineOf}
+use Rattle.lines.specs.Texts.{decimal, lineOf}
 
 -- `bad`, `edit`, `code`, `tree`, `raw`, `root`
 abbrev pub badKey : Bytes

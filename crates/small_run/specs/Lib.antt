@@ -1,3 +1,3 @@
--- Definitions that the contracts of `lesson` cite.
+-- Definitions that the contracts of `small_run` cite.
 pub mod Lesson
 pub mod Puts

@@ -6,8 +6,8 @@ use lib.ListN.{length, take}
 use Rattle.model.specs.Bytes.{Bytes}
 use Rattle.model.specs.Calls.{Answer}
 use Rattle.editor.specs.Lent.{Lent, Good, viewed}
-use Rattle.small_records.specs.declared.text.Put.{Put}
-use Rattle.small_records.specs.declared.text.Put.the-variants.{At, Refused}
+use Rattle.lines.specs.declared.text.Put.{Put}
+use Rattle.lines.specs.declared.text.Put.the-variants.{At, Refused}
 
 -- s stands in e behind what d had before the place; n is the place after it
 pub record PutAt (d : Bytes) (at : ℕ) (s : Bytes) (n : ℕ) (e : Bytes) : Type 0 where

@@ -12,10 +12,10 @@ ghost use Rattle.editor_terms.specs.Edits.{asEdit};
 ghost use Rattle.editor_terms.specs.Ids.{idBytes};
 ghost use Rattle.editor.specs.Lent.{lent, Good, viewed};
 ghost use Rattle.small_records.specs.Answers.{asOp};
-ghost use Rattle.small_records.specs.Hex.{hexed, bytesOf};
+ghost use Rattle.lines.specs.Hex.{hexed, bytesOf};
 ghost use Rattle.small_records.specs.Places.{Found, found, nextAt, recordFound};
 ghost use Rattle.small_records.specs.Records.{EditRecord, editOf, goodId, good as goodInput, reading};
-ghost use Rattle.small_records.specs.declared.text.Put.the-variants.{At};
+ghost use Rattle.lines.specs.declared.text.Put.the-variants.{At};
 ghost use Rattle.small_run.specs.Lesson.{madeBy, refusal, recordLines, afterRecords};
 ghost use Rattle.small_run.specs.Puts.{Puts, Leaves};
 use editor_terms::code::Code;
@@ -23,9 +23,9 @@ use editor_terms::edit::Edit;
 use editor_terms::edit::RemoveKind;
 use editor_terms::id::Id;
 use editor_walk::apply::Answer;
-use small_records::record::Next;
+use lines::text::Put;
 use small_records::record::Op;
-use small_records::text::Put;
+use small_records::record::RecordRead;
 use store_slots::Record;
 
 // What a step leaves: the record of the editor, and the place after what was written.
@@ -47,7 +47,7 @@ fn id_of(digits: &[u8]) -> Id
     ensures { λ r. ⌜ idBytes r ≡ bytesOf (now (digits .entry)) ⌝ }
 {
     let mut id = [0u8; 20];
-    small_records::hex::decode(&mut id, 0, digits);
+    lines::hex::decode(&mut id, 0, digits);
     editor_terms::id::id_at(&id, 0)
 }
 
@@ -80,7 +80,7 @@ fn apply(
         (lent (a .ed) (now (plens .exit)) (now (paths .exit)) (now (tlens .exit)) (now (trees .exit)) (now (order .entry))) ⌝ }
 {
     let mut path = [0u8; 32768];
-    small_records::hex::decode(&mut path, 0, digits);
+    lines::hex::decode(&mut path, 0, digits);
     let p = names::part::front(&path, digits.len() / 2);
     let ends = [0u32; 0];
     editor::edit::edited(
@@ -109,14 +109,14 @@ fn report(out: &mut [u8], to: usize, k: u64, code: Code) -> Put
     if n == 0 {
         return Put::At(to);
     }
-    match small_records::text::put_number_line(out, to, b"edit", k) {
-        Put::At(next) => small_records::text::put_number_line(out, next, b"code", n as u64),
+    match lines::text::put_number_line(out, to, b"edit", k) {
+        Put::At(next) => lines::text::put_number_line(out, next, b"code", n as u64),
         Put::Refused => Put::Refused,
     }
 }
 
 // Makes the edit of a record, the k-th, and tells its refusal.
-fn one(
+fn make_edit(
     ed: Record,
     plens: &mut [u64],
     paths: &mut [u8],
@@ -142,7 +142,7 @@ fn one(
 }
 
 // The record at a place of the input, the k-th.
-fn turn(
+fn make_record(
     ed: Record,
     plens: &mut [u64],
     paths: &mut [u8],
@@ -163,7 +163,7 @@ fn turn(
         → Puts (now (out .entry)) to (refusal k ((madeBy (recordFound (now (input .entry)) f) (viewed (lent ed (now (plens .entry)) (now (paths .entry)) (now (tlens .entry)) (now (trees .entry)) (now (order .entry))))) .code)) (r .put) (now (out .exit))) ⌝ }
 {
     match small_records::record::next_record(input, at, 20) {
-        Next::EditRecord {
+        RecordRead::EditRecord {
             op,
             path_at,
             path_len,
@@ -173,7 +173,7 @@ fn turn(
         } => {
             let edit = edit_of(op, names::part::between(input, id_at, id_len));
             let path = names::part::between(input, path_at, path_len);
-            let s = one(
+            let s = make_edit(
                 ed,
                 plens,
                 paths,
@@ -194,12 +194,12 @@ fn turn(
                 put,
             }
         }
-        Next::Bad(_) => Onward {
+        RecordRead::Bad(_) => Onward {
             at: input.len(),
             ed,
             put: Put::At(to),
         },
-        Next::End => Onward {
+        RecordRead::End => Onward {
             at: input.len(),
             ed,
             put: Put::At(to),
@@ -208,7 +208,7 @@ fn turn(
 }
 
 // All records of a good input.
-pub fn all(
+pub fn make_edits(
     ed: Record,
     plens: &mut [u64],
     paths: &mut [u8],
@@ -228,7 +228,7 @@ pub fn all(
     let mut k = 1;
     let mut to = 0;
     while at < input.len() {
-        let t = turn(
+        let t = make_record(
             now,
             plens,
             paths,

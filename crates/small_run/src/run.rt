@@ -5,15 +5,15 @@ ghost use Prim.Native.Nat.{ℕ, _≤_};
 ghost use lib.ListN.{length};
 ghost use Rattle.editor.specs.Lent.{lent, Good, viewed};
 ghost use Rattle.small_records.specs.Records.{EditRecord, good as goodInput, reading};
-ghost use Rattle.small_records.specs.declared.text.Put.the-variants.{At};
+ghost use Rattle.lines.specs.declared.text.Put.the-variants.{At};
 ghost use Rattle.small_run.specs.Lesson.{recordLines, afterRecords, saved, output};
 ghost use Rattle.small_run.specs.Puts.{Puts};
+use lines::text::Put;
 use small_records::form::Form;
-use small_records::text::Put;
 use store_slots::Record;
 
 // Over a store that holds an empty root: the records, then the write.
-fn over(
+fn run_over_store(
     ed: Record,
     plens: &mut [u64],
     paths: &mut [u8],
@@ -27,7 +27,7 @@ fn over(
     ensures { λ r. ⌜ ((rs : List EditRecord) → reading 20 (now (input .entry)) ≡ goodInput rs
         → Puts (now (out .entry)) 0 (recordLines 1 rs (viewed (lent ed (now (plens .entry)) (now (paths .entry)) (now (tlens .entry)) (now (trees .entry)) (now (order .entry)))) ++ saved (afterRecords rs (viewed (lent ed (now (plens .entry)) (now (paths .entry)) (now (tlens .entry)) (now (trees .entry)) (now (order .entry)))))) r (now (out .exit))) ⌝ }
 {
-    let s = crate::record::all(ed, plens, paths, tlens, trees, order, input, out);
+    let s = crate::record::make_edits(ed, plens, paths, tlens, trees, order, input, out);
     let now = s.ed;
     let put = s.put;
     match put {
@@ -37,7 +37,7 @@ fn over(
 }
 
 // A good input, from an empty root.
-fn good(input: &[u8], out: &mut [u8]) -> Put
+fn run_good_input(input: &[u8], out: &mut [u8]) -> Put
     requires { ⌜ (length (now input) ≤ 65536) × ((rs : List EditRecord) × (reading 20 (now input) ≡ goodInput rs)) ⌝ }
     ensures { λ r. ⌜ Puts (now (out .entry)) 0 (output (now (input .entry))) r (now (out .exit)) ⌝ }
 {
@@ -68,7 +68,7 @@ fn good(input: &[u8], out: &mut [u8]) -> Put
         b"",
     );
     let now = a.ed;
-    over(
+    run_over_store(
         now,
         &mut plens,
         &mut paths,
@@ -86,7 +86,7 @@ pub fn run(input: &[u8], out: &mut [u8]) -> Put
     ensures whole { λ r. ⌜ (303104 ≤ length (now (out .entry)) → (n : ℕ) × (r ≡ At n)) ⌝ }
 {
     match small_records::form::first_bad(input, 20) {
-        Form::Bad(n) => small_records::text::put_number_line(out, 0, b"bad", n as u64),
-        Form::Good(_) => good(input, out),
+        Form::Bad(n) => lines::text::put_number_line(out, 0, b"bad", n as u64),
+        Form::Good(_) => run_good_input(input, out),
     }
 }

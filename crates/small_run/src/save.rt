@@ -12,7 +12,7 @@ ghost use Rattle.small_run.specs.Lesson.{countId, requestLines, writeLin
 ghost use Rattle.small_run.specs.Puts.{Puts, Leaves};
 use crate::record::Step;
 use editor_terms::id::Id;
-use small_records::text::Put;
+use lines::text::Put;
 use store_slots::Record;
 
 // A count as an id.
@@ -48,16 +48,16 @@ fn put_request(
     let p = c.prefix;
     let n = c.len;
     let m = a.len;
-    match small_records::text::put_hex_line(out, to, b"tree", names::part::front(&p, n)) {
+    match lines::text::put_hex_line(out, to, b"tree", names::part::front(&p, n)) {
         Put::At(next) => {
-            small_records::text::put_hex_line(out, next, b"raw", names::part::front(raw, m))
+            lines::text::put_hex_line(out, next, b"raw", names::part::front(raw, m))
         }
         Put::Refused => Put::Refused,
     }
 }
 
 // Tells the open request, and answers it with its number.
-fn turn(
+fn make_request(
     ed: Record,
     plens: &mut [u64],
     paths: &mut [u8],
@@ -100,7 +100,7 @@ fn requests(
     let mut k: u32 = 0;
     while now.open != 0 {
         k += 1;
-        let s = turn(now, plens, paths, tlens, trees, order, raw, out, at, k);
+        let s = make_request(now, plens, paths, tlens, trees, order, raw, out, at, k);
         let e = s.ed;
         let put = s.put;
         now = e;
@@ -114,7 +114,7 @@ fn requests(
         }
     }
     let id = editor_terms::id::bytes(counted(k));
-    small_records::text::put_hex_line(out, at, b"root", &id)
+    lines::text::put_hex_line(out, at, b"root", &id)
 }
 
 // Writes from the root.

@@ -4,7 +4,7 @@ use Prim.Native.Nat.{_-_, _<_}
 use borrow.Author.Needs.{needs}
 use native.Mathlib.Omega.{arith}
 use Rattle.small_records.proofs.FormLaws.{Forming, standing, broken-below, form-long, form-begin, form-more, form-broken, form-none, form-end}
-use Rattle.small_records.proofs.PlaceLaws.{from}
+use Rattle.lines.proofs.PlaceLaws.{from}
 use Rattle.small_records.specs.Answers.{nextRead}
 use Rattle.small_records.proofs.form.first_bad.Statement.{statement}
 use Rattle.small_records.proofs.form.first_bad.Tie as tie

@@ -5,9 +5,11 @@ use native.Mathlib.Omega.{arith}
 use denote.Ref.{now}
 use mathlib.Core.Path.{_≡_}
 use borrow.Author.Needs.{needs}
-use Rattle.small_records.proofs.PlaceLaws.{inside, kind-is, no-kind}
+use Rattle.lines.proofs.PlaceLaws.{inside}
+use Rattle.small_records.proofs.PlaceLaws.{kind-is, no-kind}
 use Rattle.small_records.specs.Records.{kindKey}
-use Rattle.small_records.specs.Places.{told, kindAt}
+use Rattle.lines.specs.Places.{told}
+use Rattle.small_records.specs.Places.{kindAt}
 use Rattle.small_records.specs.Answers.{opRead, asVerb}
 use Rattle.small_records.specs.declared.record.OpRead.the-variants.{Op, Refused}
 use Rattle.small_records.proofs.record.kind_at.Statement.{statement}
@@ -18,7 +20,7 @@ ends : (c : tie.After-at) → let a = c .before .before .before .before .before 
 ends c =
     let r = c .before .before in
     let a = r .before .before .before .args in
-    inside (now (a .input)) (a .at) kindKey (r .value-at .ensures) (c .at .given .1)
+    inside kindKey (now (a .input)) (a .at) (r .value-at .ensures) (c .at .given .1)
 
 -- where the value has been read, what it says decides
 at-word : (c : tie.After-op-of) →

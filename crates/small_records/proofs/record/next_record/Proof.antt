@@ -7,9 +7,10 @@ use mathlib.Core.Option.{some}
 use mathlib.Core.Path.{_≡_}
 use borrow.Author.Needs.{needs}
 use Rattle.small_records.proofs.NextLaws.{at-end, bad-op, bad-path, bad-kind, bad-id, whole-record, path-inside, id-inside}
-use Rattle.small_records.proofs.PlaceLaws.{from}
+use Rattle.lines.proofs.PlaceLaws.{from}
 use Rattle.small_records.specs.Places.{opAt, pathAt, kindAt, idAt}
-use Rattle.small_records.specs.Answers.{valueRead, asVerb, opLine, asOp, kindLine}
+use Rattle.lines.specs.Answers.{valueRead}
+use Rattle.small_records.specs.Answers.{asVerb, opLine, asOp, kindLine}
 use Rattle.small_records.proofs.record.next_record.Statement.{statement}
 use Rattle.small_records.proofs.record.next_record.Tie as tie
 

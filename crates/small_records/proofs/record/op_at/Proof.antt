@@ -5,9 +5,11 @@ use native.Mathlib.Omega.{arith}
 use denote.Ref.{now}
 use mathlib.Core.Path.{_≡_}
 use borrow.Author.Needs.{needs}
-use Rattle.small_records.proofs.PlaceLaws.{inside, op-is, no-op}
+use Rattle.lines.proofs.PlaceLaws.{inside}
+use Rattle.small_records.proofs.PlaceLaws.{op-is, no-op}
 use Rattle.small_records.specs.Records.{opKey}
-use Rattle.small_records.specs.Places.{told, opAt}
+use Rattle.lines.specs.Places.{told}
+use Rattle.small_records.specs.Places.{opAt}
 use Rattle.small_records.specs.Answers.{verbRead}
 use Rattle.small_records.specs.declared.record.VerbRead.the-variants.{Verb, Refused}
 use Rattle.small_records.proofs.record.op_at.Statement.{statement}
@@ -18,7 +20,7 @@ ends : (c : tie.After-at) → let a = c .before .before .before .before .before 
 ends c =
     let r = c .before .before in
     let a = r .before .before .before .args in
-    inside (now (a .input)) (a .at) opKey (r .value-at .ensures) (c .at .given .1)
+    inside opKey (now (a .input)) (a .at) (r .value-at .ensures) (c .at .given .1)
 
 -- where the value has been read, what it says decides
 at-word : (c : tie.After-verb-of) →

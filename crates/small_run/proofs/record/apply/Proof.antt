@@ -9,7 +9,7 @@ use Rattle.model.specs.Calls.{edited}
 use Rattle.model.specs.Formats.{sha1}
 use Rattle.model.specs.Script.{noTable}
 use Rattle.editor_terms.specs.Edits.{asEdit}
-use Rattle.small_records.proofs.TextLaws.{length-bytes}
+use Rattle.lines.proofs.TextLaws.{length-bytes}
 use Rattle.small_run.proofs.RecordLaws.{decoded-front, did-at}
 use borrow.Author.Needs.{needs}
 use Rattle.small_run.proofs.record.apply.Statement.{statement}

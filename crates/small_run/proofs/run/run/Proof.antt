@@ -27,8 +27,8 @@ put-number-line-requires c κs = search needs
 enum-told : tie.Need-enum-told
 enum-told c = search needs
 
-good-requires : tie.Need-good-requires
-good-requires c κs =
+run-good-input-requires : tie.Need-run-good-input-requires
+run-good-input-requires c κs =
     let f = c .before .before .before in
     let s = f .before .before .before in
     good-form (now (s .args .input)) _ (sym (ap asForm (c .before .enum-told .given .1)) ∙ f .first-bad .ensures)
@@ -55,7 +55,7 @@ returns-2 : tie.Need-returns-2
 returns-2 c =
     let g = c .before .before in
     let a = g .before .before .before .before .before .before .before .args in
-    (g .good2 .ensures, λ h. all-given (now (a .input)) (now (a .out)) (g .good2 .result) (g .good2 .last .1 .0) h (g .good2 .ensures))
+    (g .run-good-input .ensures, λ h. all-given (now (a .input)) (now (a .out)) (g .run-good-input .result) (g .run-good-input .last .1 .0) h (g .run-good-input .ensures))
 
 pub run-spec : {M : Type 1} → statement M
 run-spec =
@@ -66,7 +66,7 @@ run-spec =
     slice-aggregate-put-number-line
     put-number-line-requires
     enum-told
-    good-requires
+    run-good-input-requires
     same-length
     returns
     same-length-2

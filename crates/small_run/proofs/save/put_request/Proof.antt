@@ -5,9 +5,9 @@ use denote.Ref.{now}
 use Rattle.model.specs.Bytes.{Bytes}
 use Rattle.model.specs.Raw.{rawTree}
 use Rattle.editor.specs.Lent.{lent}
-use Rattle.small_records.specs.Hex.{hexOf}
-use Rattle.small_records.specs.Texts.{lineOf}
-use Rattle.small_records.specs.declared.text.Put.the-variants.{Refused}
+use Rattle.lines.specs.Hex.{hexOf}
+use Rattle.lines.specs.Texts.{lineOf}
+use Rattle.lines.specs.declared.text.Put.the-variants.{Refused}
 use Rattle.small_run.specs.Lesson.{treeKey, rawKey}
 use Rattle.small_run.specs.Puts.{Puts}
 use Rattle.small_run.proofs.PutLaws.{both-put, first-stops}

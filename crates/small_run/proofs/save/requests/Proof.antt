@@ -31,8 +31,8 @@ add-k c =
     let l = c .before .before in
     omega (arith, l .loop .inv .0 .few)
 
-turn-requires : tie.Need-turn-requires Inv-loop μ-loop
-turn-requires c κs =
+make-request-requires : tie.Need-make-request-requires Inv-loop μ-loop
+make-request-requires c κs =
     let t = c .before .before .before .before .before .before .before in
     let l = t .before .before in
     let m = l .loop .inv .0 in
@@ -48,7 +48,7 @@ loop-less c =
     let l = t .before .before in
     let m = l .loop .inv .0 in
     let (h, q) = open-some (lent (l .loop .now) (l .loop .plens) (l .loop .paths) (l .loop .tlens) (l .loop .trees) (l .loop .order)) (t .if1 .taken) in
-    omega (arith, saving-less m h q (r .turn .ensures .0))
+    omega (arith, saving-less m h q (r .make-request .ensures .0))
 
 loop-again : tie.Need-loop-again Inv-loop μ-loop
 loop-again c =
@@ -57,7 +57,7 @@ loop-again c =
     let l = t .before .before in
     let m = l .loop .inv .0 in
     let (h, q) = open-some (lent (l .loop .now) (l .loop .plens) (l .loop .paths) (l .loop .tlens) (l .loop .trees) (l .loop .order)) (t .if1 .taken) in (
-      saving-more m h q (r .turn .ensures .0) (put-told (r .turn .ensures .1 h q) (c .before .put .given .1)) _ (search (needs, c .before .before .before .before .before .before .slice-known13, c .before .before .before .before .before .before .before .raw)),
+      saving-more m h q (r .make-request .ensures .0) (put-told (r .make-request .ensures .1 h q) (c .before .put .given .1)) _ (search (needs, c .before .before .before .before .before .before .slice-known13, c .before .before .before .before .before .before .before .raw)),
       search (needs, c .before .before .before .before .before .before .before .before .before .before .before .before .before .before .before .before .slice-known8, c .before .before .before .before .before .before .before .before .before .before .before .before .before .before .before .before .before .plens),
       search (needs, c .before .before .before .before .before .before .before .before .before .before .before .before .before .before .slice-known9, c .before .before .before .before .before .before .before .before .before .before .before .before .before .before .before .paths),
       search (needs, c .before .before .before .before .before .before .before .before .before .before .before .before .slice-known10, c .before .before .before .before .before .before .before .before .before .before .before .before .before .tlens),
@@ -98,7 +98,7 @@ returns c =
     let l = t .before .before in
     let m = l .loop .inv .0 in
     let (h, q) = open-some (lent (l .loop .now) (l .loop .plens) (l .loop .paths) (l .loop .tlens) (l .loop .trees) (l .loop .order)) (t .if1 .taken) in
-    saving-stop m h q (put-refused _ _ _ _ (r .turn .ensures .1 h q) (c .enum-told .given .1))
+    saving-stop m h q (put-refused _ _ _ _ (r .make-request .ensures .1 h q) (c .enum-told .given .1))
 
 counted-requires : tie.Need-counted-requires Inv-loop μ-loop
 counted-requires c κs = search needs
@@ -153,7 +153,7 @@ requests-spec =
     μ-loop
     loop-holds
     add-k
-    turn-requires
+    make-request-requires
     enum-known-put
     loop-less
     loop-again

@@ -1,0 +1,7 @@
+pub mod AnswerLaws
+pub mod Examples
+pub mod HexLaws
+pub mod LineLaws
+pub mod NumberLaws
+pub mod PlaceLaws
+pub mod TextLaws

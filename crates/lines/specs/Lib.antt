@@ -1,0 +1,6 @@
+pub mod Answers
+pub mod Hex
+pub mod Lines
+pub mod Numbers
+pub mod Places
+pub mod Texts
