@@ -1,4 +1,5 @@
 pub mod Examples
+pub mod KeepLaws
 pub mod PieceLaws
 pub mod PlaceLaws
 pub mod StandLaws

@@ -55,9 +55,12 @@ unfoldable pub mendAll : List Piece → Mended → Mended
 mendAll [] m = m
 mendAll (x ∷ xs) m = mendAll xs (mend1 x m)
 
--- the entries kept are within the limits
+-- so many entries with so many bytes of names are within the limits
+abbrev pub fits : ℕ → ℕ → Bool
+fits entries bytes = leb entries 1024 && leb bytes 16384
+
 abbrev pub within : Tree → Bool
-within t = leb (length t) 1024 && leb (nameBytes t) 16384
+within t = fits (length t) (nameBytes t)
 
 -- what a call gives back: a number, the length of the tree written or needed, what was changed, and the lent output afterwards
 pub record Answer : Type 0 where
