@@ -1,5 +1,6 @@
 pub mod Examples
 pub mod KeepLaws
+pub mod PassLaws
 pub mod PieceLaws
 pub mod PlaceLaws
 pub mod StandLaws

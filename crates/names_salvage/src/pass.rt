@@ -80,3 +80,78 @@ fn keep(
         ..t
     }
 }
+
+// What is known after one entry more.
+fn turn(
+    raw: &[u8],
+    table: &mut [u32],
+    t: Tally,
+    mode_len: usize,
+    name_at: usize,
+    name_len: usize,
+    next: usize,
+) -> Tally
+    requires { ⌜ ((w : ℕ) × (m : mending.Mended) × Holds (now raw) w (now table) t m × StandsAt (now raw) w (t .at) «mode_len» «name_at» «name_len» next)
+        × (t .over ≡ false) × (length (now raw) ≤ 536870911) ⌝ }
+    ensures { λ r. ⌜ ((w : ℕ) (m : mending.Mended) → Holds (now (raw .entry)) w (now (table .entry)) t m → StandsAt (now (raw .entry)) w (t .at) «mode_len» «name_at» «name_len» next
+        → Turned (now (raw .entry)) w (now (table .exit)) r (mending.mend1 (pieceAt (now (raw .entry)) w (t .at) «mode_len» «name_at» «name_len» next) m) next) ⌝ }
+{
+    let at = t.at;
+    let name = names::part::between(raw, name_at, name_len);
+    if crate::piece::good_name(name) {
+        match Mode::from_octal(names::part::between(raw, at, mode_len)) {
+            ModeRead::Kind(kind) => keep(
+                raw,
+                table,
+                t,
+                name_at,
+                name,
+                names::mode::is_tree(kind),
+                next,
+            ),
+            ModeRead::Refused => Tally {
+                at: next,
+                badmode: t.badmode + 1,
+                ..t
+            },
+        }
+    } else {
+        Tally {
+            at: next,
+            badname: t.badname + 1,
+            ..t
+        }
+    }
+}
+
+// Reads entries until one can't be read, or until the entries kept pass a limit.
+pub fn pass(raw: &[u8], width: usize, table: &mut [u32]) -> Tally
+    requires { ⌜ (length (now raw) ≤ 536870911) × (length (now table) ≡ 1024) ⌝ }
+    ensures { λ r. ⌜ Passed (now (raw .entry)) width (now (table .exit)) r ⌝ }
+{
+    let mut t = Tally {
+        at: 0,
+        kept: 0,
+        names: 0,
+        len: 0,
+        badname: 0,
+        badmode: 0,
+        double: 0,
+        moved: 0,
+        over: false,
+    };
+    while !t.over {
+        let at = t.at;
+        let Read::Whole {
+            mode_len,
+            name_at,
+            name_len,
+            next,
+        } = crate::piece::read_piece(raw, at, width)
+        else {
+            return t;
+        };
+        t = turn(raw, table, t, mode_len, name_at, name_len, next);
+    }
+    t
+}
