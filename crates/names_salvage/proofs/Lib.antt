@@ -1,7 +1,9 @@
 pub mod Examples
 pub mod KeepLaws
+pub mod MendLaws
 pub mod PassLaws
 pub mod PieceLaws
 pub mod PlaceLaws
+pub mod PutLaws
 pub mod StandLaws
 pub mod TableLaws

@@ -11,7 +11,8 @@ use Rattle.model.specs.Raw.{octal, rawEntry, rawTree}
 use Rattle.model.specs.Tree.{Mode, isTree, Entry, Tree, asKind, key, entryOf, goodName, goodEntries, nameBytes}
 use Rattle.names_compact.specs.Compact.{blank}
 use Rattle.names_salvage.specs.Pieces.{Piece, pieceOf, piecesOf}
-use Rattle.names_salvage.specs.Mending.{Mended, nothing, sorted, mendAll, within}
+use Rattle.names_salvage.specs.Mending.{Mended, nothing, sorted, mendAll, within, Answer}
+use Rattle.names_salvage.specs.declared.mend.Mended as code
 use Rattle.names_salvage.specs.declared.pass.Tally.{Tally}
 use Rattle.names_salvage.specs.declared.piece.Read.{Read}
 use Rattle.names_salvage.specs.declared.piece.Read.the-variants.{Whole, Cut}
@@ -106,3 +107,7 @@ PassedTo false raw w table t = Holds raw w table t (mendedOf w raw) × (length (
 
 pub record Passed (raw : Bytes) (w : ℕ) (table : List ℕ) (t : Tally) : Type 0 where
   pub is : PassedTo (t .over) raw w table t
+
+-- what the answer of a call says
+abbrev pub answer : code.Mended → Bytes → Answer
+answer r d = record { code = r .code; len = r .len; cut = r .cut; badName = r .badname; badMode = r .badmode; double = r .double; moved = r .moved; out = d }
