@@ -26,7 +26,7 @@ unfolding sorted
 rising-sorted [] = refl
 rising-sorted (e ∷ es) = rising-put key e (sorted es) (rising-sorted es)
 
-sorted-with : (e : Entry) (k : Tree) → sorted (e ∷ k) ≡ put key e (sorted k)
+pub sorted-with : (e : Entry) (k : Tree) → sorted (e ∷ k) ≡ put key e (sorted k)
 unfolding sorted
 sorted-with e k = refl
 
@@ -39,7 +39,7 @@ below j (b ∷ bs) e cs r =
     let p = below (key b) bs e cs (above-tail key j b (bs ++ (e ∷ cs)) r) in
     (cmp-trans j (key b) (key e) h (p .0), rw (p .0) (p .1))
 
-below-all : (bs : Tree) (e : Entry) (cs : Tree) → rising key (bs ++ (e ∷ cs)) ≡ true → above (key e) bs ≡ true
+pub below-all : (bs : Tree) (e : Entry) (cs : Tree) → rising key (bs ++ (e ∷ cs)) ≡ true → above (key e) bs ≡ true
 unfolding above
 below-all [] e cs r = refl
 below-all (b ∷ bs) e cs r = let p = below (key b) bs e cs r in rw (p .0) (p .1)

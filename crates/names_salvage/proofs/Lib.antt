@@ -7,3 +7,4 @@ pub mod PlaceLaws
 pub mod PutLaws
 pub mod StandLaws
 pub mod TableLaws
+pub mod Theorems

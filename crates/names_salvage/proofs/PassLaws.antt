@@ -78,7 +78,7 @@ rest-shorter w s x e =
     omega (arith, ap length (p .bytes), length-append (x .mode) (32 ∷ (x .name ++ (0 ∷ (x .id ++ x .rest)))), length-append (x .name) (0 ∷ (x .id ++ x .rest)), length-append (x .id) (x .rest))
 
 -- Reading goes on to the end: the bound does not matter.
-piece-nil : (w : ℕ) → pieceOf w [] ≡ none
+pub piece-nil : (w : ℕ) → pieceOf w [] ≡ none
 unfolding pieceOf indexOf
 piece-nil w = refl
 
@@ -87,7 +87,7 @@ unfolding piecesIn
 pieces-nil zero w = refl
 pieces-nil (suc n) w = ap (readOn (piecesIn n w) []) (piece-nil w)
 
-no-bytes : (s : Bytes) → length s ≤ 0 → s ≡ []
+pub no-bytes : (s : Bytes) → length s ≤ 0 → s ≡ []
 no-bytes [] h = refl
 no-bytes (x ∷ xs) h = absurd (omega arith)
 
@@ -305,7 +305,7 @@ pass-begin raw w table h =
           };
     }
 
-mend-cons : (x : Piece) (ps : List Piece) (m : Mended) → mendAll (x ∷ ps) m ≡ mendAll ps (mend1 x m)
+pub mend-cons : (x : Piece) (ps : List Piece) (m : Mended) → mendAll (x ∷ ps) m ≡ mendAll ps (mend1 x m)
 unfolding mendAll
 mend-cons x ps m = refl
 
@@ -332,7 +332,7 @@ pass-turn {raw} {w} {table} {t} {a} {name} {n} {next} k st {table′} {r} room u
           left = k .left ∙ ap (λ (p : Pieces). p .left) ps ∙ ap (λ (j : ℕ). piecesOf w (drop j raw) .left) (sym q);
         }
 
-mend-nil : (m : Mended) → mendAll [] m ≡ m
+pub mend-nil : (m : Mended) → mendAll [] m ≡ m
 unfolding mendAll
 mend-nil m = refl
 

@@ -1,6 +1,6 @@
 -- The bytes of a tree as entries, whatever their modes and names are: each a mode's text, a space (32), a name, a NUL and an id. Assumes nothing.
 use Prim.Native.Nat.{ℕ, zero, suc}
-use mathlib.Core.List.{List, [], _∷_}
+use mathlib.Core.List.{List, [], _∷_, _++_}
 use mathlib.Core.Bool.{cond, _&&_}
 use mathlib.Core.Option.{Option, none, some}
 use lib.Dec.{leb, ltb}
@@ -40,3 +40,11 @@ piecesIn (suc most) w s = readOn (piecesIn most w) s (pieceOf w s)
 
 unfoldable pub piecesOf : ℕ → Bytes → Pieces
 piecesOf w s = piecesIn (length s) w s
+
+-- the bytes of entries as they stand
+abbrev pub rawPiece : Piece → Bytes
+rawPiece x = x .mode ++ (32 ∷ x .name ++ (0 ∷ x .id))
+
+unfoldable pub rawPieces : List Piece → Bytes
+rawPieces [] = []
+rawPieces (x ∷ xs) = rawPiece x ++ rawPieces xs
