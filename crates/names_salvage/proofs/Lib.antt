@@ -1,6 +1,7 @@
 pub mod Examples
 pub mod KeepLaws
 pub mod MendLaws
+pub mod MendedTree
 pub mod PassLaws
 pub mod PieceLaws
 pub mod PlaceLaws
@@ -8,3 +9,5 @@ pub mod PutLaws
 pub mod StandLaws
 pub mod TableLaws
 pub mod Theorems
+pub mod TrueNumbers
+pub mod Unchanged

@@ -6,7 +6,7 @@ use mathlib.Core.List.{List, [], _∷_, _++_}
 use native.Mathlib.Numerals.{add-one}
 use native.Mathlib.Omega.{arith}
 use lib.Dec.{eqb}
-use borrow.Author.Tests.{eqb-true, eqb-false, ne-eqb}
+use borrow.Author.Tests.{eqb-true, eqb-false, eq-eqb}
 use lib.ListN.{length, take, drop, getD, length-append, length-drop}
 use lib.Seq.{take-at, take-suc, take-length, take-all, length-take-le}
 use Rattle.model.specs.Bytes.{Bytes, has}
@@ -24,19 +24,19 @@ use Rattle.names_salvage.specs.Answers.{Stands, Lists}
 use Rattle.names_salvage.proofs.StandLaws.{name-there}
 use Rattle.names_salvage.proofs.TableLaws.{listed, listed-long}
 
--- a name ends at the NUL behind it
-index-past : (n r : Bytes) → has 0 n ≡ false → indexOf 0 (n ++ (0 ∷ r)) ≡ length n
+-- what is before the first of a byte ends there
+pub index-past : (b : ℕ) (n r : Bytes) → has b n ≡ false → indexOf b (n ++ (b ∷ r)) ≡ length n
 unfolding indexOf
-index-past [] r h = refl
-index-past (x ∷ n) r h = go (eqb x 0) refl (index-past n r)
+index-past b [] r h = rw (eq-eqb b b refl)
+index-past b (x ∷ n) r h = go (eqb x b) refl (index-past b n r)
   where
-    go : (t : Bool) → eqb x 0 ≡ t → (has 0 n ≡ false → indexOf 0 (n ++ (0 ∷ r)) ≡ length n) → cond t zero (suc (indexOf 0 (n ++ (0 ∷ r)))) ≡ suc (length n)
-    go true e ih = absurd (true≢false (sym (has-here 0 x n (eqb-true x 0 e)) ∙ h))
-    go false e ih = ap suc (ih (sym (has-past 0 x n (eqb-false x 0 e)) ∙ h))
+    go : (t : Bool) → eqb x b ≡ t → (has b n ≡ false → indexOf b (n ++ (b ∷ r)) ≡ length n) → cond t zero (suc (indexOf b (n ++ (b ∷ r)))) ≡ suc (length n)
+    go true e ih = absurd (true≢false (sym (has-here b x n (eqb-true x b e)) ∙ h))
+    go false e ih = ap suc (ih (sym (has-past b x n (eqb-false x b e)) ∙ h))
 
 module _ {raw : Bytes} {v w : ℕ} {e : Entry} (st : Stands raw v e) (wide : length (e .id) ≡ w) where
   pub name-length : {n : ℕ} {l : Bytes} → n ≡ indexOf 0 l → l ≡ drop (v / 8) raw → n ≡ length (e .name)
-  name-length en el = en ∙ ap (indexOf 0) (el ∙ name-there st) ∙ index-past (e .name) (e .id ++ st .rest) (no-nul (e .name) (good-plain (e .name) (st .good)))
+  name-length en el = en ∙ ap (indexOf 0) (el ∙ name-there st) ∙ index-past 0 (e .name) (e .id ++ st .rest) (no-nul (e .name) (good-plain (e .name) (st .good)))
 
   pub all-there : v / 8 + length (e .name) + 1 + w ≤ length raw
   all-there =
