@@ -6,6 +6,7 @@ pub mod PassLaws
 pub mod PieceLaws
 pub mod PlaceLaws
 pub mod PutLaws
+pub mod ReportLaws
 pub mod StandLaws
 pub mod TableLaws
 pub mod Theorems

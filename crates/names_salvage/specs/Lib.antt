@@ -2,3 +2,4 @@ pub mod Answers
 pub mod Examples
 pub mod Mending
 pub mod Pieces
+pub mod Report

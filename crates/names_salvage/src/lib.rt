@@ -2,4 +2,5 @@
 pub mod mend;
 pub mod pass;
 pub mod piece;
+pub mod report;
 pub mod table;
