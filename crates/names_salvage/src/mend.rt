@@ -11,6 +11,7 @@ ghost use Rattle.names_salvage.specs.Answers.{Stands, Lists, answer};
 ghost use Rattle.names_salvage.specs.Mending.{refusal, mended, salvaged};
 
 // The answer: a number, the length of the tree that was written or is needed, and what was changed.
+#[repr(C)]
 pub struct Mended {
     pub code: u32,
     pub len: usize,
