@@ -6,7 +6,7 @@
  * TREE_EDITOR_STORE_DAMAGED. No call asks anything of what record and arrays hold. No array that a call may change overlaps another
  * that is lent to it, or the record. An array of no elements may have any pointer.
  *
- * Every function but tree_editor_holds gives a number that says what it did; crates/adapter proves what each does, and docs/RULES.md says it
+ * Every function but tree_editor_holds gives a number that says what it did (tree_editor_mend with others beside it); crates/adapter proves what each does, and docs/RULES.md says it
  * in words.
  *
  * Names and paths are bytes: compared as unsigned bytes, counted as bytes, never taken for text.
@@ -167,6 +167,23 @@ uint8_t tree_editor_fail(tree_editor *ed, TREE_EDITOR_STORE, TREE_EDITOR_ORDER);
 
 /* 1 where record and arrays hold an editor, else 0. */
 uint8_t tree_editor_holds(tree_editor ed, TREE_EDITOR_READ);
+
+/* What became of a damaged tree. `code` is 0 with a well-formed raw tree of `len` bytes at the front of the output; 5 where the entries kept
+ * are over 1,024 or their names over 16,384 bytes; 11 where the output has fewer than `len` bytes; 255 for a width that is neither 20 nor
+ * 32, or a tree of 2^29 bytes or more. With any but 0 nothing is written, and what follows `len` is 0. */
+typedef struct tree_editor_mended {
+    uint32_t code;
+    uint64_t len;      /* bytes of the tree that was written, or with 11 that are needed */
+    uint64_t cut;      /* bytes from the first entry on that could not be read */
+    uint64_t badname;  /* entries dropped for their name */
+    uint64_t badmode;  /* entries dropped for their mode, their name being good */
+    uint64_t doubled;  /* entries dropped since their name was kept before */
+    uint64_t moved;    /* 1 where the entries kept were not in order, else 0 */
+} tree_editor_mended;
+
+/* Mends a damaged raw tree with ids of `width` bytes, without an editor: reads entries until one can't be read, keeps those with a good name
+ * and mode and a name that is new, and writes them in order. A well-formed tree comes out as it is, with all zeros. */
+tree_editor_mended tree_editor_mend(const uint8_t *raw, uint64_t raw_len, uint64_t width, uint8_t *out, uint64_t out_len);
 
 #ifdef __cplusplus
 }

@@ -33,14 +33,19 @@ module() {
   clang=$own/toolchain/bin/clang ar=$own/toolchain/bin/llvm-ar
 }
 
-# the module for this machine: its triple and layout; a large struct that C passes by value comes as a pointer to a copy
+# the module for this machine: its triple and layout; a large struct that C passes by value comes as a pointer to a copy, and one that C gets back
+# goes to where a pointer of its own says
 native() {
   local triple=$machine-unknown-linux-gnu layout
   layout=$("$clang" --no-default-config --target="$triple" -S -emit-llvm -x c /dev/null -o - | grep '^target datalayout')
   "$clang" --no-default-config -S -emit-llvm -O0 -x ir "$folder/adapter.bc" -o "$folder/adapter.ll"
   sed -e "s/^target triple = .*/target triple = \"$triple\"/" -e "s/^target datalayout = .*/$layout/" \
     -e 's/ "probe-stack"="inline-asm"//; s/ "target-cpu"="x86-64"//; s/ byval(\[[0-9]* x i8\])//g; s/ byval(%[^)]*)//g' \
-    "$folder/adapter.ll" > "$folder/native.ll"
+    "$folder/adapter.ll" |
+    awk '/^define .*ptr @tree_editor_/ { sub(/noundef ptr @/, "void @"); sub(/\(ptr noundef %a0/, "(ptr noundef sret(i8) align 8 %a0"); inside = 1 }
+      inside && /^ *ret ptr/ { $0 = "  ret void" }
+      /^}/ { inside = 0 }
+      { print }' > "$folder/native.ll"
   "$clang" --no-default-config --target="$triple" -O3 -fPIE -ffunction-sections -fdata-sections -Wno-override-module -c -x ir "$folder/native.ll" -o "$folder/adapter.o"
   rm -f "$library"
   "$ar" rcs "$library" "$folder/adapter.o"

@@ -503,3 +503,47 @@ impl<S: BorrowMut<Store>> Cursor<'_, '_, '_, S> {
         self.parent.finish(out, host)
     }
 }
+
+/// How many bytes the ids of a tree have.
+#[derive(Clone, Copy, Debug, PartialEq, Eq)]
+pub enum Width {
+    /// 20, as in Git's usual format.
+    Sha1 = 20,
+    /// 32, as in its SHA-256 format.
+    Sha256 = 32,
+}
+
+/// What was changed where a damaged tree was mended.
+#[repr(C)]
+#[derive(Clone, Copy, Debug, Default, PartialEq, Eq)]
+pub struct Mended {
+    code: u32,
+    /// Bytes of the mended tree.
+    pub len: u64,
+    /// Bytes that were cut off, from the first entry on that could not be read.
+    pub cut: u64,
+    /// Entries dropped for their name.
+    pub badname: u64,
+    /// Entries dropped for their mode, their name being good.
+    pub badmode: u64,
+    /// Entries dropped since their name was kept before.
+    pub doubled: u64,
+    /// 1 where the entries kept were not in order, else 0.
+    pub moved: u64,
+}
+
+/// Mends a damaged raw tree, without an editor: entries are read until one can't be, those with a good name and mode and a name that is new are
+/// kept, and written in order to the front of `out`. A well-formed tree comes out as it is, and all numbers but its length are 0.
+///
+/// [`Error::NoRoom`] where the entries kept or their names pass the limits of an editor, [`Error::OutputShort`] where `out` is too short, and
+/// [`Error::TreeDamaged`] for 2^29 bytes or more, which no tree has; nothing is written then.
+pub fn mend(raw: &[u8], width: Width, out: &mut [u8]) -> Result<Mended, Error> {
+    // SAFETY: each pointer comes with its slice's length, and `out` overlaps nothing.
+    let mended = unsafe { sys::tree_editor_mend(raw.as_ptr(), raw.len() as u64, width as u64, out.as_mut_ptr(), out.len() as u64) };
+    match mended.code {
+        0 => Ok(mended),
+        5 => Err(Error::NoRoom),
+        11 => Err(Error::OutputShort { needed: mended.len as usize }),
+        _ => Err(Error::TreeDamaged),
+    }
+}

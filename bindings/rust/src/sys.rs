@@ -1,5 +1,5 @@
 //! The functions of include/tree_editor.h. Each lent array is a pointer and its number of elements, which is a `u64` on every machine.
-use crate::Record;
+use crate::{Mended, Record};
 
 /// A macro that declares the functions: after the record come the five arrays, then what is the call's own.
 macro_rules! calls {
@@ -37,4 +37,8 @@ calls! {
         path_len: u64, lens: *mut u64, lens_len: u64, next: *mut u8, next_len: u64) -> u8;
     tree_editor_fail(*mut Record; edit, read;) -> u8;
     tree_editor_holds(Record; read, read;) -> u8;
+}
+
+unsafe extern "C" {
+    pub fn tree_editor_mend(raw: Bytes, raw_len: u64, width: u64, out: *mut u8, out_len: u64) -> Mended;
 }

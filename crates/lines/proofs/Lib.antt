@@ -4,4 +4,5 @@ pub mod HexLaws
 pub mod LineLaws
 pub mod NumberLaws
 pub mod PlaceLaws
+pub mod PutLaws
 pub mod TextLaws

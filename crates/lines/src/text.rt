@@ -66,7 +66,7 @@ fn hex_into(out: &mut [u8], at: usize, bytes: &[u8]) -> usize
 }
 
 // Puts the digits of a number at the end of the twenty bytes, and gives the place where they start.
-fn decimal_into(digits: &mut [u8; 20], n: u64) -> usize
+pub fn decimal_into(digits: &mut [u8; 20], n: u64) -> usize
     requires { ⌜ length (now digits) ≡ 20 ⌝ }
     ensures { λ r. ⌜ drop r (now (digits .exit)) ≡ decimal n ⌝ }
     ensures { λ _. ⌜ length (now (digits .exit)) ≡ 20 ⌝ }

@@ -46,7 +46,7 @@ beyond (c ∷ n) (d ∷ l) s r h ne e = go (compare c d) refl e (λ p q. beyond 
     go Ordering·eq f e ih = ih (λ q. ne (ap₂ (λ (x : ℕ) (y : Bytes). x ∷ y) (sym (compare-eq c d f)) q)) e
     go Ordering·gt f e ih = absurd (let z : _≡_ {A = ℕ} 0 1 = cc in omega arith)
 
-tree-before : (b : Bool) (n m : Bytes) → (take (length n) m ≡ n → ⊥) → cmp n (asKind b m) ≡ Ordering·lt → cmp (asKind true n) (asKind b m) ≡ Ordering·lt
+pub tree-before : (b : Bool) (n m : Bytes) → (take (length n) m ≡ n → ⊥) → cmp n (asKind b m) ≡ Ordering·lt → cmp (asKind true n) (asKind b m) ≡ Ordering·lt
 tree-before true n m ne e = beyond n m (47 ∷ []) (47 ∷ []) (omega arith) ne e
 tree-before false n m ne e = ap (cmp (n ++ (47 ∷ []))) (sym (append-nil m)) ∙ beyond n m [] (47 ∷ []) (omega arith) ne (ap (cmp n) (append-nil m) ∙ e)
 
@@ -58,7 +58,7 @@ none-first : (n : Bytes) (l : Tree) → risingFrom key n l ≡ true → begun n 
 none-first n [] u f = refl
 none-first n (x ∷ xs) u f = rw (tree-before (isTree (x .mode)) n (x .name) (same-not (take (length n) (x .name)) n f) (above-head key n x xs u))
 
-no-tree : (n : Bytes) (t : Tree) (i : ℕ) → rising key t ≡ true → Right key n t (miss i) → begun n (drop i t) ≡ false → find key (asKind true n) t ≡ none
+pub no-tree : (n : Bytes) (t : Tree) (i : ℕ) → rising key t ≡ true → Right key n t (miss i) → begun n (drop i t) ≡ false → find key (asKind true n) t ≡ none
 no-tree n t i r R f =
     let a : Entry = record { mode = BLOB; name = n; id = [] } in
     find-from-place key n t i r R a (file-key n) (asKind true n) (file-tree n) ∙ none-first n (drop i t) (above-place key n t i r R a (file-key n)) f

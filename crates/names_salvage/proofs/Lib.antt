@@ -1,0 +1,14 @@
+pub mod Examples
+pub mod KeepLaws
+pub mod MendLaws
+pub mod MendedTree
+pub mod PassLaws
+pub mod PieceLaws
+pub mod PlaceLaws
+pub mod PutLaws
+pub mod ReportLaws
+pub mod StandLaws
+pub mod TableLaws
+pub mod Theorems
+pub mod TrueNumbers
+pub mod Unchanged

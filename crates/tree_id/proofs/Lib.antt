@@ -1,0 +1,2 @@
+pub mod EmptyTree
+pub mod Laws
