@@ -1,4 +1,6 @@
 // What a program in C links: an editor changed in place, with numbers for enums.
+#![tactic(auto)]
+
 mod edit;
 mod mend;
 mod read;

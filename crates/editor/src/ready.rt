@@ -8,7 +8,7 @@ ghost use Rattle.editor.specs.Looks.{ReadyIs};
 use store_slots::{Found, Record};
 
 // The slot of the prefix; or that no tree is cached there, number 8, or that the path is refused, number 6.
-#[derive(Drop)]
+#[derive(Clone, Copy)]
 pub enum Ready {
     In(usize),
     Stale,

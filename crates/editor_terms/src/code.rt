@@ -3,7 +3,7 @@ ghost use Rattle.std.specs.Prelude.{◌≡◌};
 ghost use Rattle.editor_terms.specs.Answers.{codeNumber};
 
 // One case for each of the numbers; the output that is too short comes with the length needed.
-#[derive(Drop)]
+#[derive(Clone, Copy)]
 pub enum Code {
     Done,
     EmptyComponent,

@@ -12,20 +12,20 @@ use crate::code::Code;
 use crate::id::Id;
 use names::mode::EntryKind;
 
-#[derive(Drop)]
+#[derive(Clone, Copy)]
 pub enum RemoveKind {
     Any,
     Leaf,
 }
 
-#[derive(Drop)]
+#[derive(Clone, Copy)]
 pub enum Edit {
     Remove(RemoveKind),
     Upsert(EntryKind, Id),
 }
 
 // The entry of a name in the current tree.
-#[derive(Drop)]
+#[derive(Clone, Copy)]
 pub enum Seen {
     Entry(EntryKind, Id),
     Nothing,
@@ -33,7 +33,7 @@ pub enum Seen {
 
 // What is done at a component: the walk stops with a number; or the entry goes, and the walk stops; or the entry has this kind and
 // id now; or nothing is changed, and the walk goes down to the tree of this id.
-#[derive(Drop)]
+#[derive(Clone, Copy)]
 pub enum Turn {
     Stop(Code),
     Cut,
@@ -42,7 +42,7 @@ pub enum Turn {
 }
 
 // What is to be loaded below.
-#[derive(Drop)]
+#[derive(Clone, Copy)]
 pub enum Wanted {
     Tree(Id),
     Nothing,

@@ -4,7 +4,7 @@ ghost use Rattle.model.specs.Bytes.{same as sameBytes};
 ghost use Rattle.model.specs.Formats.{sha1};
 ghost use Rattle.editor_terms.specs.Ids.{word_bytes, id_bytes};
 
-#[derive(Drop)]
+#[derive(Clone, Copy)]
 pub struct Id {
     pub a: u32,
     pub b: u32,

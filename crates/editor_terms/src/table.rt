@@ -7,7 +7,7 @@ ghost use Rattle.editor_terms.specs.Objects.{table_of, FoundIn};
 use crate::id::Id;
 
 // Where an object's raw tree is.
-#[derive(Drop)]
+#[derive(Clone, Copy)]
 pub enum Object {
     At(usize, usize),
     Nothing,

@@ -21,7 +21,7 @@ use editor_terms::edit::{Edit, Seen, Turn};
 use store_slots::Record;
 
 // What a step comes to: its number, the record, and whether and in which slot the walk goes on.
-#[derive(Drop)]
+#[derive(Clone, Copy)]
 pub struct Walked {
     pub going: bool,
     pub code: Code,
@@ -30,7 +30,7 @@ pub struct Walked {
 }
 
 // What a walk answers, and the record then.
-#[derive(Drop)]
+#[derive(Clone, Copy)]
 pub struct Answer {
     pub code: Code,
     pub ed: Record,

@@ -11,7 +11,7 @@ use names::limits::{ENTRIES, NAME_BYTES, PATH_BYTES, SLOTS};
 use store_slots::Record;
 
 // What is used: trees, entries, bytes of names and of paths.
-#[derive(Drop)]
+#[derive(Clone, Copy)]
 pub struct Counts {
     pub trees: usize,
     pub entries: usize,

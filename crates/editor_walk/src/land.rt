@@ -17,7 +17,7 @@ use names::tree::Checked;
 use store_slots::{Found, Record};
 
 // A raw tree of the table: where it is, how many entries and name bytes it has.
-#[derive(Drop)]
+#[derive(Clone, Copy)]
 pub struct Raw {
     pub from: usize,
     pub to: usize,
@@ -26,7 +26,7 @@ pub struct Raw {
 }
 
 // The tree is cached in a slot; or an empty tree is to be cached; or a raw tree of the table is; or the walk stops.
-#[derive(Drop)]
+#[derive(Clone, Copy)]
 pub enum Landing {
     There(usize),
     Fresh,

@@ -1,4 +1,6 @@
 // The walk over the components of a path: lookups, the first pass of an edit, which changes nothing, and the second, which makes its steps.
+#![tactic(auto)]
+
 pub mod apply;
 pub mod counts;
 pub mod land;

@@ -17,7 +17,7 @@ use names::mode::EntryKind;
 use store_slots::{Found, Record};
 
 // What a lookup answers: an entry's kind and id, or that there is none, or a refusal.
-#[derive(Drop)]
+#[derive(Clone, Copy)]
 pub enum Looked {
     Found(EntryKind, Id),
     Missing,
@@ -25,7 +25,7 @@ pub enum Looked {
 }
 
 // How a lookup goes on after a component: it is over, or goes on in a slot.
-#[derive(Drop)]
+#[derive(Clone, Copy)]
 pub enum LookStep {
     Over(Looked),
     In(usize),

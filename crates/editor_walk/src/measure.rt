@@ -23,7 +23,7 @@ use names::limits::{ENTRIES, NAME_BYTES};
 use store_slots::Record;
 
 // The tree that the walk would be at: cached in a slot, a raw tree of the table, or an empty one.
-#[derive(Drop)]
+#[derive(Clone, Copy)]
 pub enum Level {
     Slot(usize),
     Raw(usize, usize),
@@ -31,14 +31,14 @@ pub enum Level {
 }
 
 // What an edit comes to: its number, which is 5 where a step passes a limit, and whether each step keeps the limits.
-#[derive(Drop)]
+#[derive(Clone, Copy)]
 pub struct Measured {
     pub code: Code,
     pub kept: bool,
 }
 
 // What a step comes to: its number, whether the limits are kept, and whether and where the walk goes on.
-#[derive(Drop)]
+#[derive(Clone, Copy)]
 pub struct MeasureStep {
     pub code: Code,
     pub kept: bool,

@@ -1,4 +1,6 @@
 // The write over a lent store, one request at a time.
+#![tactic(auto)]
+
 pub mod answer;
 pub mod begin;
 pub mod fail;

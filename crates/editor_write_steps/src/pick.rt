@@ -8,7 +8,7 @@ ghost use Rattle.editor_write_steps.specs.Writes.{Brief, turned, hand_of};
 use store_slots::Record;
 
 // A tree that was taken, whether it is to be finished, and the record then.
-#[derive(Drop)]
+#[derive(Clone, Copy)]
 pub struct Picked {
     pub finish: bool,
     pub slot: usize,

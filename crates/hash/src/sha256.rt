@@ -9,7 +9,7 @@ use super::buffer::{Buffer, ending, fill};
 use super::word::{Sixteen, byte0, byte1, byte2, byte3, ch, maj, plus, rotr, row_at};
 
 // A hash value: eight words.
-#[derive(Drop)]
+#[derive(Clone, Copy)]
 pub struct Words {
     pub a: u32,
     pub b: u32,

@@ -4,7 +4,7 @@ ghost use Rattle.lines.specs.Answers.{valueRead};
 ghost use Rattle.lines.specs.Places.{value_at};
 
 // Where a line's value stands, or that there is no such line.
-#[derive(Drop)]
+#[derive(Clone, Copy)]
 pub enum Value {
     At { at: usize, len: usize },
     Broken,

@@ -7,7 +7,7 @@ ghost use Rattle.lines.specs.Numbers.{is_decimal, says_after, number_of, most, c
 pub const MOST: usize = 4611686018427387904;
 
 // The number that a text says, or that it says none.
-#[derive(Drop)]
+#[derive(Clone, Copy)]
 pub enum Number {
     Is(usize),
     Refused,

@@ -6,7 +6,7 @@ ghost use Rattle.lines.specs.Hex.{digit_for, hex_of};
 ghost use Rattle.lines.specs.Texts.{decimal, key_of, line_of, written};
 
 // What a write gives: the place after it, or that nothing was written.
-#[derive(Drop)]
+#[derive(Clone, Copy)]
 pub enum Put {
     At(usize),
     Refused,

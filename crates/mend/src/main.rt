@@ -1,4 +1,6 @@
 // Mends a damaged tree: its bytes on standard input, the report and the mended tree in hex on standard output. Ids have 20 bytes, or 32 where the first argument says so.
+#![tactic(auto)]
+
 use libc::{STDIN_FILENO, STDOUT_FILENO};
 use lines::text::Put;
 

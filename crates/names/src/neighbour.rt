@@ -22,7 +22,7 @@ pub fn plain_from(name: &[u8], from: usize) -> bool
 }
 
 // How an entry stands to the one before it: it may follow, and no later one has the name of the one before; it may follow; it may not.
-#[derive(Drop)]
+#[derive(Clone, Copy)]
 pub enum Standing {
     Apart,
     Within,

@@ -40,7 +40,7 @@ pub fn kind_of(byte: u8) -> EntryKind
 }
 
 // Where a name is in a tree, or where it would stand: the number of the entry, its first byte, and how many names were compared.
-#[derive(Drop)]
+#[derive(Clone, Copy)]
 pub struct Place {
     pub found: bool,
     pub index: usize,

@@ -10,7 +10,7 @@ use names::order::Order;
 use names::tree::Checked;
 
 // Where the entry at a place ends, if it is whole.
-#[derive(Drop)]
+#[derive(Clone, Copy)]
 pub enum End {
     To { next: usize },
     Damaged,
@@ -136,7 +136,7 @@ fn ahead(tree: &[u8], width: usize, prev: usize, at: usize, next: usize, w: u64,
 }
 
 // How far a check has come: the place of the next entry, that of the one before it, and what was counted.
-#[derive(Drop)]
+#[derive(Clone, Copy)]
 pub struct Far {
     pub at: usize,
     pub prev: usize,

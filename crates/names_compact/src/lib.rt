@@ -1,3 +1,5 @@
 // Trees in compact form, as they lie in the store: reading, searching, packing, and the check.
+#![tactic(auto)]
+
 pub mod compact;
 pub mod judge;

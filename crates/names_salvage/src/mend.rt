@@ -8,7 +8,7 @@ ghost use Rattle.names_salvage.specs.Mending.{refusal, mended, salvaged};
 
 // The answer: a number, the length of the tree that was written or is needed, and what was changed.
 #[repr(C)]
-#[derive(Drop)]
+#[derive(Clone, Copy)]
 pub struct Mended {
     pub code: u32,
     pub len: usize,

@@ -8,7 +8,7 @@ use crate::piece::Read;
 use names::mode::{Mode, ModeRead};
 
 // What was found of a tree up to a place: how many entries are kept, the bytes of their names and of their raw form, and what was dropped; `over` says that they pass a limit.
-#[derive(Drop)]
+#[derive(Clone, Copy)]
 pub struct Tally {
     pub at: usize,
     pub kept: usize,

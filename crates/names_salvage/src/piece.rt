@@ -4,7 +4,7 @@ ghost use Rattle.model.specs.Tree.{good_name};
 ghost use Rattle.names_salvage.specs.Answers.{ReadAs};
 
 // What stands at a place: an entry, with where its parts are, or none that can be read.
-#[derive(Drop)]
+#[derive(Clone, Copy)]
 pub enum Read {
     Whole {
         mode_len: usize,

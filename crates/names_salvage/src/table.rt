@@ -13,7 +13,7 @@ use names::mode::{Mode, ModeRead};
 use names::order::Order;
 
 // Where a name is in the table, or where it would stand.
-#[derive(Drop)]
+#[derive(Clone, Copy)]
 pub struct Spot {
     pub found: bool,
     pub index: usize,

@@ -4,7 +4,7 @@ ghost use Rattle.io.specs.Counts.{IsPrefixLen};
 use libc::STDIN_FILENO;
 
 // How many bytes were read, and whether a read failed before the input ended or the buffer was full.
-#[derive(Drop)]
+#[derive(Clone, Copy)]
 pub struct Got {
     pub len: usize,
     pub failed: bool,

@@ -1,6 +1,8 @@
 // The small program: edits from records on standard input, and the trees of a write on standard output. A Rattle program ends with status 0 whatever happens,
 // so a caller goes by what is written: nothing on standard output where a read failed, nothing more on it after a write that failed, and in both cases a line
 // on standard error, which is empty otherwise.
+#![tactic(auto)]
+
 mod input;
 
 use libc::{STDERR_FILENO, STDOUT_FILENO};

@@ -6,7 +6,7 @@ ghost use Rattle.small_records.specs.Records.{form_of, reading};
 use crate::record::RecordRead;
 
 // The first line that breaks the form, or how many records there are.
-#[derive(Drop)]
+#[derive(Clone, Copy)]
 pub enum Form {
     Bad(usize),
     Good(usize),

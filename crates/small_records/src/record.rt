@@ -9,40 +9,40 @@ use lines::line::Value;
 use names::mode::{EntryKind, Mode, ModeRead};
 
 // What an `op=` line says.
-#[derive(Drop)]
+#[derive(Clone, Copy)]
 pub enum Verb {
     Upsert,
     Remove,
     Leaf,
 }
 
-#[derive(Drop)]
+#[derive(Clone, Copy)]
 pub enum VerbRead {
     Verb(Verb),
     Refused,
 }
 
-#[derive(Drop)]
+#[derive(Clone, Copy)]
 pub enum OpLine {
     Line { verb: Verb, next: usize },
     Broken,
 }
 
 // What a record does, once its `kind=` line is read.
-#[derive(Drop)]
+#[derive(Clone, Copy)]
 pub enum Op {
     Upsert(EntryKind),
     Remove,
     Leaf,
 }
 
-#[derive(Drop)]
+#[derive(Clone, Copy)]
 pub enum OpRead {
     Op(Op),
     Refused,
 }
 
-#[derive(Drop)]
+#[derive(Clone, Copy)]
 pub enum KindLine {
     Line { op: Op, next: usize },
     Broken,
@@ -50,7 +50,7 @@ pub enum KindLine {
 
 // What stands at a place: a record, with the digits of its path and of its id, and the place after it; lines that break the form, the first of them by
 // its number in the record, from 0; or the end.
-#[derive(Drop)]
+#[derive(Clone, Copy)]
 pub enum RecordRead {
     EditRecord {
         op: Op,

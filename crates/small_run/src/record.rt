@@ -24,14 +24,14 @@ use small_records::record::{Op, RecordRead};
 use store_slots::Record;
 
 // What a step leaves: the record of the editor, and the place after what was written.
-#[derive(Drop)]
+#[derive(Clone, Copy)]
 pub struct Step {
     pub ed: Record,
     pub put: Put,
 }
 
 // A step, and the place of the record that follows.
-#[derive(Drop)]
+#[derive(Clone, Copy)]
 pub struct Onward {
     pub at: usize,
     pub ed: Record,

@@ -1,4 +1,6 @@
 // Whether a record and lent slices hold an editor.
+#![tactic(auto)]
+
 pub mod holds;
 pub mod laid;
 pub mod open_write;

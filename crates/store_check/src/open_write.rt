@@ -20,7 +20,7 @@ use names::limits::SLOTS;
 use store_slots::{Found, Record};
 
 // Whether slots could be set in a map, and the map then.
-#[derive(Drop)]
+#[derive(Clone, Copy)]
 pub struct Marked {
     pub good: bool,
     pub map: u64,

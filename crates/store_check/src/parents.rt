@@ -93,7 +93,7 @@ fn after_child(home: &[u8], tree: &[u8], width: usize, at: usize, path: &[u8]) -
 }
 
 // How far down slots of the table are those of children, and where in the tree's entries the next may be.
-#[derive(Drop)]
+#[derive(Clone, Copy)]
 pub struct Walk {
     pub low: usize,
     pub at: usize,
@@ -130,7 +130,7 @@ fn children(
 }
 
 // How far down slots of the table are known to be those of children, and whether a path that comes after theirs is known to be a child's too.
-#[derive(Drop)]
+#[derive(Clone, Copy)]
 pub struct Known {
     pub low: usize,
     pub asked: bool,

@@ -69,7 +69,7 @@ pub fn remove(
     used - n
 }
 
-#[derive(Drop)]
+#[derive(Clone, Copy)]
 pub enum Found {
     At(usize),
     Nothing,

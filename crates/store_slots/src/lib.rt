@@ -1,4 +1,6 @@
 // The trees of an editor, in lent slices: for each of 64 slots a path and a tree.
+#![tactic(auto)]
+
 ghost use Rattle.std.specs.Prelude.{◌≡◌, true, ℕ, ◌+◌, ◌-◌, ◌≤◌, ◌<◌, List, [], length, set};
 ghost use Rattle.std.proofs.Math.Option.{none};
 ghost use Rattle.model.specs.Bytes.{Bytes, has};
@@ -17,7 +19,7 @@ pub use store_runs::runs::Found;
 // `open` is 0 where no write is open, 1 for one from the root and 2 for one from a cursor; `aside` and `stacked` count its trees, and `asked` is
 // the slot of the requested one.
 #[repr(C)]
-#[derive(Drop)]
+#[derive(Clone, Copy)]
 pub struct Record {
     pub free: u64,
     pub hidden: u64,
@@ -32,7 +34,7 @@ pub struct Record {
 }
 
 // A slot that was taken, and the record then.
-#[derive(Drop)]
+#[derive(Clone, Copy)]
 pub struct Taken {
     pub slot: usize,
     pub editor: Record,

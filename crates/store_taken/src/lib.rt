@@ -1,5 +1,7 @@
 // The trees that an open write has taken: their slots' numbers stand in a lent table, those set aside from its front, the start tree first,
 // those stacked at its back, the next to be taken first. A tree that is neither is in hand.
+#![tactic(auto)]
+
 ghost use Rattle.std.specs.Prelude.{◌≡◌, ℕ, ◌+◌, ◌-◌, ◌≤◌, ◌<◌, List, [], ◌∷◌, length, get_or, set, replicate, true, not, ◌&&◌, eqb};
 ghost use Rattle.model.specs.Bytes.{has};
 ghost use Rattle.std.proofs.Math.Option.{none};

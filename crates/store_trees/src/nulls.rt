@@ -11,7 +11,7 @@ ghost use Rattle.store_trees.specs.Trees.{Fewer};
 use store_slots::Record;
 
 // The bytes then in use, and how many entries are gone.
-#[derive(Drop)]
+#[derive(Clone, Copy)]
 pub struct Left {
     pub used: usize,
     pub gone: usize,

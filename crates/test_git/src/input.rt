@@ -3,7 +3,7 @@ ghost use Rattle.std.specs.Prelude.{◌≤◌, length};
 ghost use Rattle.io.specs.Counts.{IsPrefixLen};
 
 // Whether there is more to do, and how many bytes the front of the buffer then holds.
-#[derive(Drop)]
+#[derive(Clone, Copy)]
 struct Step {
     more: bool,
     held: usize,

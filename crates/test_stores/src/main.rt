@@ -1,5 +1,7 @@
 // Whether stores hold an editor: standard input has stores one after the other, in the form that tests/stores/stores.py tells, and a
 // line of standard output says of each 1 or 0.
+#![tactic(auto)]
+
 mod input;
 mod words;
 

@@ -1,1 +1,2 @@
 // Theorems alone: what the statements of the public calls promise, taken together.
+#![tactic(auto)]

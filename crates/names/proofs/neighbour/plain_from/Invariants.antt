@@ -1,0 +1,10 @@
+use Prim.Native.Nat.{◌-◌}
+use lib.ListN.{length}
+use Rattle.names.proofs.StandingLaws.{Plain}
+use Rattle.names.proofs.neighbour.plain_from.Given as goal
+
+abbrev pub invariant-loop-i : goal.invariant-loop-i
+invariant-loop-i l = Plain l.name l.from l.i
+
+abbrev pub decreases-loop-i : goal.decreases-loop-i
+decreases-loop-i l = length l.name - l.i

@@ -1,0 +1,46 @@
+-- `names::tree::well_formed` meets its contract: the entries so far are well formed, so those that are left decide, with the last name and kind. Assumes nothing.
+use native.Mathlib.Omega.{arith}
+use Rattle.names.proofs.CheckLaws.{no_width, raw_is, raw_damaged, raw_reach, raw_begins, raw_short}
+use Rattle.names.proofs.EntriesLaws.{entries_end}
+use Rattle.names.proofs.FitLaws.{check_begin, check_end, check_damaged, check_broken, check_more}
+use Rattle.names.proofs.ReadLaws.{entries_raw}
+use Rattle.names.proofs.tree.well_formed.Goals as goal
+
+pub returns-then-width-eq0 : goal.returns-then-width-eq0
+returns-then-width-eq0 c = no_width _ _ c.if-width-eq0.true
+
+pub loop-at-init : goal.loop-at-init
+loop-at-init c = check_begin _ _ (raw_is _ _ c.if-width-eq0.false) (λ ts q. (entries_raw _ _ ts q).1) c.front-prev.ensures
+
+pub returns-in_default : goal.returns-in_default
+returns-in_default c = check_damaged c.loop-at.invariant (raw_damaged _ _ _ c.read_entry.ensures c.loop-at-test.true c.in_default.is)
+
+-- The check goes on after an entry that fits. That the counts fit follows from this.
+pub loop-at-preserved : goal.loop-at-preserved
+loop-at-preserved c =
+    check_more c.loop-at.invariant (raw_begins _ _ _ c.read_entry.ensures c.in-Entry.is c.loop-at-test.true)
+    c.between-name.ensures c.is_tree-tree.ensures c.may_follow.ensures
+    (raw_short _ _ _ c.read_entry.ensures c.in-Entry.is c.between-name.ensures) (raw_reach _ _ _ c.read_entry.ensures c.in-Entry.is).inside c.if-may_follow.true
+
+pub overflow_add-entries : goal.overflow_add-entries
+overflow_add-entries c =
+    let w = loop-at-preserved c in
+    omega arith
+
+pub overflow_add-name_bytes : goal.overflow_add-name_bytes
+overflow_add-name_bytes c =
+    let w = loop-at-preserved c in
+    omega arith
+
+pub loop-at-smaller : goal.loop-at-smaller
+loop-at-smaller c =
+    let x = raw_reach _ _ _ c.read_entry.ensures c.in-Entry.is in
+    omega arith
+
+pub returns-else-may_follow : goal.returns-else-may_follow
+returns-else-may_follow c =
+    check_broken c.loop-at.invariant (raw_begins _ _ _ c.read_entry.ensures c.in-Entry.is c.loop-at-test.true)
+    c.between-name.ensures c.is_tree-tree.ensures c.may_follow.ensures c.if-may_follow.false
+
+pub returns : goal.returns
+returns c = check_end c.loop-at.invariant (entries_end _ _ _ c.loop-at-test.false)

@@ -1,0 +1,10 @@
+use lib.ListN.{length}
+use Prim.Native.Nat.{◌-◌}
+use Rattle.names.proofs.WriteLaws.{Putting}
+use Rattle.names.proofs.write.put.Given as goal
+
+abbrev pub invariant-loop-i : goal.invariant-loop-i
+invariant-loop-i l = Putting l.initial.out l.out l.at l.s l.i
+
+abbrev pub decreases-loop-i : goal.decreases-loop-i
+decreases-loop-i l = length l.s - l.i
