@@ -4,7 +4,6 @@ use Rattle.std.proofs.Math.Option.{none, some}
 use Rattle.model.specs.Bytes.{Bytes, same}
 use Rattle.model.specs.Map.{find}
 use Rattle.model.specs.Tree.{Mode, TREE, BLOB, EXEC, LINK, COMMIT, Entry, Tree, key, good_entries, name_bytes}
-use Rattle.model.specs.Order.{All}
 use Rattle.model.specs.Raw.{read_tree}
 use Rattle.model.specs.Search.{Spot, hit, miss, Searched, searched}
 use Rattle.names_compact.specs.declared.compact.Place.{Place}
