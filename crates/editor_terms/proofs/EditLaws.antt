@@ -3,7 +3,7 @@ use mathlib.Core.Path.{◌≡◌, refl, sym, ap, ap₂, ◌∙◌}
 use mathlib.Core.Bool.{Bool, true, false}
 use mathlib.Core.Option.{Option, none, some}
 use Rattle.model.specs.Bytes.{Bytes}
-use Rattle.model.specs.Tree.{Mode, TREE, is_tree, Entry, Tree, entry_of, without, with_entry, null}
+use Rattle.model.specs.Tree.{Mode, TREE, is_tree, Entry, entry_of, without, with_entry, null}
 use Rattle.model.specs.Walk.{ANY, LEAF, remove, upsert, stop, last, down, pick_turn, through, to_remove, removed, at_last, at_earlier, turn}
 use Rattle.model.specs.Measure.{Counts, less_name, stays, ends, goes, pick_sight, seen_last, seen_earlier, seen}
 use Rattle.model.proofs.Basics.{none_some, some_none, some_inj}

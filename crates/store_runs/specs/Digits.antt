@@ -1,5 +1,5 @@
 -- A map of slots: digit s of the word, counted from the lowest, is 1 where the slot s is set. Assumes nothing.
-use Rattle.std.specs.Prelude.{ℕ, zero, suc, ◌+◌, ◌/◌, ◌%◌, List, [], ◌∷◌}
+use Rattle.std.specs.Prelude.{ℕ, zero, suc, ◌/◌, ◌%◌, List, [], ◌∷◌}
 
 -- the k lowest binary digits of n, lowest first
 unfoldable pub digits : ℕ → ℕ → List ℕ

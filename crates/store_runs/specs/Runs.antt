@@ -1,5 +1,5 @@
 -- Runs of bytes that lie end to end in one slice, with their lengths in another. Assumes nothing.
-use Rattle.std.specs.Prelude.{◌≡◌, ℕ, zero, suc, ◌+◌, ◌≤◌, ◌<◌, List, [], ◌∷◌, ◌++◌, length, take, drop, get_or}
+use Rattle.std.specs.Prelude.{◌≡◌, ℕ, zero, suc, ◌+◌, ◌≤◌, List, [], ◌∷◌, length, take, drop, get_or}
 use Rattle.store_runs.specs.Moves.{part}
 
 -- the sum of a list
