@@ -10,7 +10,7 @@ use lib.Seq.{get_or-set_same}
 use Rattle.model.specs.Bytes.{Bytes, same}
 use Rattle.model.specs.Map.{find, put, del}
 use Rattle.model.specs.Tree.{among, name_bytes, well_formed}
-use Rattle.model.specs.Editor.{Held, at, fits}
+use Rattle.model.specs.Editor.{Held, at}
 use Rattle.model.proofs.RawLaws.{well_entries}
 use Rattle.store_runs.specs.Digits.{digits, first_set}
 use Rattle.store_runs.proofs.DigitLaws.{length_digits, first_set_lem}
