@@ -1,0 +1,9 @@
+use native.Mathlib.Omega.{arith}
+use Rattle.lines.proofs.TextLaws.{Digits, digits_begin, digits_end, digits_left, digits_long, digits_more}
+use Rattle.lines.proofs.text.decimal_into.Given as goal
+
+abbrev pub invariant-loop-m : goal.invariant-loop-m
+invariant-loop-m l = Digits l.n l.digits l.i l.m
+
+abbrev pub decreases-loop-m : goal.decreases-loop-m
+decreases-loop-m l = l.m
