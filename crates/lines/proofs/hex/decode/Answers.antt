@@ -5,7 +5,6 @@ use mathlib.Core.Path.{◌≡◌, sym, ◌∙◌}
 use lib.ListN.{length}
 use Prim.Native.Nat.{◌+◌, ◌/◌, ◌≤◌}
 use native.Mathlib.Omega.{arith}
-use borrow.Author.Rules.{rules}
 use Rattle.lines.specs.Hex.{hexed, bytes_of}
 use Rattle.lines.proofs.TextLaws.{length_bytes, decoded_is, decoded_short, decoded_no}
 use Rattle.names.proofs.WriteLaws.{wrote}

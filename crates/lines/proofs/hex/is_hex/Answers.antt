@@ -1,9 +1,6 @@
 -- `lines::hex::is_hex` meets its contract: the pairs passed are digits, so what is left decides; a single byte at the end is no pair. Assumes nothing.
-use borrow.Author.Rules.{rules}
 use mathlib.Core.Path.{sym, ◌∙◌}
-use Prim.Native.Nat.{◌-◌}
-use lib.ListN.{length}
-use Rattle.lines.proofs.HexLaws.{Hexing, hex_begin, hex_end, hex_first, hex_second, hex_more}
+use Rattle.lines.proofs.HexLaws.{hex_begin, hex_end, hex_first, hex_second, hex_more}
 use Rattle.lines.proofs.hex.is_hex.Goals as goal
 
 pub loop-i-init : goal.loop-i-init

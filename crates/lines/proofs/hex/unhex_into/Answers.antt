@@ -1,9 +1,8 @@
 -- `lines::hex::unhex_into` meets its contract: each pair of digits says one byte, and those passed are written. Assumes nothing.
 use lib.ListN.{length, get_or}
-use Prim.Native.Nat.{◌+◌, ◌*◌, ◌-◌, ◌/◌, ◌≤◌, ◌<◌}
+use Prim.Native.Nat.{◌+◌, ◌*◌, ◌/◌, ◌≤◌, ◌<◌}
 use native.Mathlib.Omega.{arith}
-use Rattle.names.proofs.WriteLaws.{Putting, put_begin, put_end}
-use Rattle.lines.specs.Hex.{bytes_of}
+use Rattle.names.proofs.WriteLaws.{put_begin, put_end}
 use Rattle.lines.proofs.TextLaws.{byte_put, length_bytes, high_digit, low_digit, value_small}
 use Rattle.lines.proofs.hex.unhex_into.Goals as goal
 

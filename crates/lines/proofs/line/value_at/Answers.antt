@@ -2,7 +2,6 @@
 use Prim.Native.Nat.{◌+◌, ◌≤◌, ◌<◌}
 use lib.ListN.{length}
 use native.Mathlib.Omega.{arith}
-use borrow.Author.Rules.{rules}
 use Rattle.lines.proofs.PlaceLaws.{no_newline, key_fits, has_key, other_key}
 use Rattle.lines.proofs.line.value_at.Goals as goal
 

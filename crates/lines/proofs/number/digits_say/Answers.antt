@@ -1,9 +1,6 @@
 -- `lines::number::digits_say` meets its contract: the digits passed have said the number so far, so what is left decides. Assumes nothing.
-use borrow.Author.Rules.{rules}
 use mathlib.Core.Path.{sym, ◌∙◌}
-use Prim.Native.Nat.{◌-◌}
-use lib.ListN.{length}
-use Rattle.lines.proofs.NumberLaws.{Numbering, numbering_begin, numbering_end, numbering_stop, numbering_more}
+use Rattle.lines.proofs.NumberLaws.{numbering_begin, numbering_end, numbering_stop, numbering_more}
 use Rattle.lines.proofs.number.digits_say.Goals as goal
 
 pub loop-i-init : goal.loop-i-init

@@ -2,7 +2,6 @@
 use native.Mathlib.Omega.{arith}
 use Prim.Native.Nat.{◌+◌, ◌-◌, ◌*◌}
 use Rattle.lines.proofs.NumberLaws.{digit_within, cap_is, cap_over}
-use borrow.Author.Rules.{rules}
 use Rattle.lines.proofs.number.with_digit.Goals as goal
 
 pub returns-then-n : goal.returns-then-n

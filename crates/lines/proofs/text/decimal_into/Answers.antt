@@ -1,6 +1,6 @@
 -- `lines::text::decimal_into` meets its contract: the digits so far are those of the number's low end, and what is left of it has the others; twenty are enough for every word. Assumes nothing.
 use native.Mathlib.Omega.{arith}
-use Rattle.lines.proofs.TextLaws.{Digits, digits_begin, digits_end, digits_left, digits_long, digits_more}
+use Rattle.lines.proofs.TextLaws.{digits_begin, digits_end, digits_left, digits_long, digits_more}
 use Rattle.lines.proofs.text.decimal_into.Goals as goal
 
 pub loop-m-init : goal.loop-m-init

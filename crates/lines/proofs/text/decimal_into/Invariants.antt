@@ -1,5 +1,4 @@
-use native.Mathlib.Omega.{arith}
-use Rattle.lines.proofs.TextLaws.{Digits, digits_begin, digits_end, digits_left, digits_long, digits_more}
+use Rattle.lines.proofs.TextLaws.{Digits}
 use Rattle.lines.proofs.text.decimal_into.Given as goal
 
 abbrev pub invariant-loop-m : goal.invariant-loop-m

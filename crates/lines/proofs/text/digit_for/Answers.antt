@@ -1,5 +1,4 @@
 -- `lines::text::digit_for` meets its contract: 0 to 9 begin at 48, a to f at 97. Assumes nothing.
-use borrow.Author.Rules.{rules}
 use Rattle.lines.proofs.TextLaws.{digit_below, digit_above}
 use Rattle.lines.proofs.text.digit_for.Goals as goal
 

@@ -1,10 +1,8 @@
 -- `lines::text::hex_into` meets its contract: each byte is two digits, and those of the bytes passed are written. Assumes nothing.
 use lib.ListN.{length-set, length}
-use Prim.Native.Nat.{◌+◌, ◌*◌, ◌-◌, ◌≤◌}
-use borrow.Author.Rules.{rules}
+use Prim.Native.Nat.{◌+◌, ◌*◌, ◌≤◌}
 use native.Mathlib.Omega.{arith}
-use Rattle.names.proofs.WriteLaws.{Putting, put_begin, put_end}
-use Rattle.lines.specs.Hex.{hex_of}
+use Rattle.names.proofs.WriteLaws.{put_begin, put_end}
 use Rattle.lines.proofs.TextLaws.{hex_put, length_hex}
 use Rattle.lines.proofs.text.hex_into.Goals as goal
 

@@ -1,10 +1,7 @@
-use lib.ListN.{length-set, length}
-use Prim.Native.Nat.{◌+◌, ◌*◌, ◌-◌, ◌≤◌}
-use borrow.Author.Rules.{rules}
-use native.Mathlib.Omega.{arith}
-use Rattle.names.proofs.WriteLaws.{Putting, put_begin, put_end}
+use lib.ListN.{length}
+use Prim.Native.Nat.{◌*◌, ◌-◌, ◌≤◌}
+use Rattle.names.proofs.WriteLaws.{Putting}
 use Rattle.lines.specs.Hex.{hex_of}
-use Rattle.lines.proofs.TextLaws.{hex_put, length_hex}
 use Rattle.lines.proofs.text.hex_into.Given as goal
 
 abbrev pub invariant-loop-i : goal.invariant-loop-i

@@ -1,7 +1,6 @@
 -- `lines::text::line_room` meets its contract: a line has its key, its value, `=` and a newline; each is taken from the room that is left, so that no sum passes a word. Assumes nothing.
 use Prim.Native.Nat.{◌+◌}
 use native.Mathlib.Omega.{arith}
-use borrow.Author.Rules.{rules}
 use Rattle.lines.proofs.TextLaws.{room_less, room_two}
 use Rattle.lines.proofs.text.line_room.Goals as goal
 

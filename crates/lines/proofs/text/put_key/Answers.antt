@@ -1,7 +1,6 @@
 -- `lines::text::put_key` meets its contract: two writes, one behind the other, are one write of the whole. Assumes nothing.
 use mathlib.Core.List.{[], ◌∷◌}
 use native.Mathlib.Omega.{arith}
-use borrow.Author.Rules.{rules}
 use Rattle.names.proofs.WriteLaws.{Wrote, wrote, wrote_more}
 use Rattle.lines.proofs.text.put_key.Goals as goal
 

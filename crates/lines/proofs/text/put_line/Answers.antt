@@ -5,7 +5,6 @@ use mathlib.Core.List.{[], ◌∷◌, ◌++◌}
 use mathlib.Core.Path.{sym, ◌∙◌}
 use Prim.Native.Nat.{◌+◌, ◌≤◌}
 use native.Mathlib.Omega.{arith}
-use borrow.Author.Rules.{rules}
 use Rattle.lines.specs.Texts.{key_of, line_of}
 use Rattle.lines.proofs.TextLaws.{key_long, line_long, written_is, refused_is}
 use Rattle.names.proofs.WriteLaws.{Wrote, wrote, wrote_more}

@@ -1,7 +1,6 @@
 -- `lines::text::put_number_line` meets its contract: the digits are put at the end of twenty bytes, and the line takes them from there. Assumes nothing.
 use mathlib.Core.Path.{ap, ◌∙◌}
 use native.Mathlib.Omega.{arith}
-use borrow.Author.Rules.{rules}
 use Rattle.lines.specs.Texts.{written, line_of}
 use Rattle.model.specs.Bytes.{Bytes}
 use Rattle.lines.proofs.text.put_number_line.Goals as goal
