@@ -20,7 +20,7 @@ pub overflow_add-p : goal.overflow_add-p
 overflow_add-p c = omega (arith, room c)
 
 pub digit_for-requires : goal.digit_for-requires
-digit_for-requires c = omega (arith, c.shared_slice_known-in-loop-i-1.given c.loop-i.i)
+digit_for-requires c = omega (arith, c.type_inv.bytes c.loop-i.i)
 
 -- what is to be written fits
 room-2 : (c : goal.After-digit_for) → c.args.at + 2 * length c.args.bytes.now ≤ length c.args.out.now
@@ -30,7 +30,7 @@ pub bounds-out-p : goal.bounds-out-p
 bounds-out-p c = omega (arith, room-2 c, c.loop-i.invariant.1.long)
 
 pub digit_for-requires-in-loop-i : goal.digit_for-requires-in-loop-i
-digit_for-requires-in-loop-i c = omega (arith, c.shared_slice_known-in-loop-i-2-1.given c.loop-i.i)
+digit_for-requires-in-loop-i c = omega (arith, c.type_inv.bytes c.loop-i.i)
 
 -- what is to be written fits
 room-3 : (c : goal.After-digit_for-in-loop-i) → c.args.at + 2 * length c.args.bytes.now ≤ length c.args.out.now
