@@ -1,0 +1,12 @@
+-- `hash::sha256::State::finish` meets its contract: the rest with its padding is the end of the padded message. Assumes nothing.
+use Rattle.std.proofs.Common.{sym, length-take-le, rules}
+use Rattle.hash.specs.Sha256.{compress, initial, sha256}
+use Rattle.hash.proofs.StreamLaws.{last}
+use Rattle.hash.proofs.sha256.State.finish.Goals as goal
+
+pub slice_bounds-blocks-end : goal.slice_bounds-blocks-end
+slice_bounds-blocks-end c = sym (length-take-le _ _ c.ending-tail.ensures.whole)
+
+pub returns : goal.returns
+unfolding sha256
+returns c = λ m a. last compress initial _ _ _ _ _ m a c.ending-tail.ensures c.blocks-2.ensures

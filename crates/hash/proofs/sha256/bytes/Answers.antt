@@ -1,0 +1,42 @@
+-- `hash::sha256::bytes` meets its contract: each word gives its four bytes, the highest first. Assumes nothing.
+use Rattle.std.proofs.Common.{refl, rules}
+use Rattle.hash.proofs.Laws.{cons}
+use Rattle.hash.specs.Blocks.{big_endian}
+use Rattle.hash.specs.Sha256.{bytes}
+use Rattle.hash.proofs.sha256.bytes.Goals as goal
+
+pub returns : goal.returns
+unfolding bytes big_endian
+returns c =
+    cons c.byte3.ensures
+    (cons c.byte2.ensures
+    (cons c.byte1.ensures
+    (cons c.byte0.ensures
+    (cons c.byte3-2.ensures
+    (cons c.byte2-2.ensures
+    (cons c.byte1-2.ensures
+    (cons c.byte0-2.ensures
+    (cons c.byte3-3.ensures
+    (cons c.byte2-3.ensures
+    (cons c.byte1-3.ensures
+    (cons c.byte0-3.ensures
+    (cons c.byte3-4.ensures
+    (cons c.byte2-4.ensures
+    (cons c.byte1-4.ensures
+    (cons c.byte0-4.ensures
+    (cons c.byte3-5.ensures
+    (cons c.byte2-5.ensures
+    (cons c.byte1-5.ensures
+    (cons c.byte0-5.ensures
+    (cons c.byte3-6.ensures
+    (cons c.byte2-6.ensures
+    (cons c.byte1-6.ensures
+    (cons c.byte0-6.ensures
+    (cons c.byte3-7.ensures
+    (cons c.byte2-7.ensures
+    (cons c.byte1-7.ensures
+    (cons c.byte0-7.ensures
+    (cons c.byte3-8.ensures
+    (cons c.byte2-8.ensures
+    (cons c.byte1-8.ensures
+    (cons c.byte0-8.ensures refl)))))))))))))))))))))))))))))))
