@@ -1,5 +1,5 @@
 -- Facts of the definition: the padding is the least that gives whole blocks, and each word of a hash is below 2 ^ 32. Assumes nothing.
-use Rattle.std.proofs.Common.{◌≡◌, ℕ, zero, suc, ◌+◌, ◌-◌, ◌*◌, ◌/◌, ◌%◌, ◌^◌, ◌<◌, ◌≤◌, List, [], ◌∷◌, ◌++◌, length, take, drop, replicate, sym, refl, ap, ◌∙◌, subst, mod-lt, arith, lit<, length-append}
+use Rattle.std.proofs.Common.{◌≡◌, ℕ, zero, suc, ◌+◌, ◌*◌, ◌/◌, ◌%◌, ◌^◌, ◌<◌, ◌≤◌, List, ◌∷◌, ◌++◌, length, take, drop, replicate, ◌∙◌, mod-lt, arith, lit<, length-append}
 use lib.ListN.{length-replicate}
 use Rattle.hash.specs.Blocks.{zeros, big_endian, padding, padded, run, hashed}
 use Rattle.hash.specs.Sha1 as one

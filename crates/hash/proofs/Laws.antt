@@ -3,7 +3,7 @@ use Rattle.std.proofs.Common.{◌≡◌, ℕ, zero, suc, ◌+◌, ◌-◌, ◌*�
 use lib.Seq.{take-append-le, get_or_at, paste, paste-suc}
 use Rattle.hash.specs.Word.{word_at}
 use native.Mathlib.Decide.{le_ind}
-use Rattle.hash.specs.Blocks.{pick, word_of, words, turns}
+use Rattle.hash.specs.Blocks.{word_of, words, turns}
 use Rattle.hash.specs.Rows.{Row, sixteen}
 use Rattle.hash.specs.declared.word.Sixteen.{Sixteen}
 use Rattle.hash.specs.Sha1 as sha1

@@ -1,7 +1,7 @@
 -- Laws of a message that comes a part at a time: whole blocks may be taken in as they come, and the padding goes behind what is left. Assumes nothing.
-use Rattle.std.proofs.Common.{◌≡◌, ℕ, zero, suc, ◌+◌, ◌-◌, ◌*◌, ◌/◌, ◌%◌, ◌^◌, ◌<◌, ◌≤◌, min, List, [], ◌∷◌, ◌++◌, length, get_or, take, drop, set, replicate, sym, refl, ap, ◌∙◌, ap₂, append_assoc, add-zero, add_assoc, add-suc, suc-add, zero-add, add-one, arith, length-append, length-drop, length-take, length-take-le, take_all, drop-drop, take_at, take-add, drop_at}
+use Rattle.std.proofs.Common.{◌≡◌, ℕ, zero, suc, ◌+◌, ◌-◌, ◌*◌, ◌/◌, ◌%◌, ◌^◌, ◌<◌, ◌≤◌, min, List, [], ◌∷◌, ◌++◌, length, take, drop, set, replicate, sym, refl, ap, ◌∙◌, ap₂, append_assoc, suc-add, zero-add, arith, length-append, length-drop, length-take-le, take_all, drop-drop, take_at, drop_at}
 use lib.ListN.{length-replicate, replicate-append-replicate}
-use lib.Seq.{paste, length-paste, take-paste, drop-append-le, take-append-le, sets, sets-eq, set_at, take-append-add, take-append_seam, drop-append-add, take-length}
+use lib.Seq.{paste, length-paste, take-paste, drop-append-le, take-append-le, sets, sets-eq, set_at, take-append-add, drop-append-add, take-length}
 use Rattle.hash.specs.Blocks.{run, padding, padded, zeros, big_endian, hashed}
 use Rattle.hash.specs.Stream.{Filled, Padded, Holds, Grown}
 use Rattle.hash.specs.declared.buffer.Buffer.{Buffer}

@@ -1,5 +1,5 @@
 -- FIPS 180-4, sections 5.1.1, 5.2.1 and 6: what SHA-1 and SHA-256 share. A message is a list of bytes. Assumes nothing.
-use Rattle.std.specs.Prelude.{ℕ, zero, suc, ◌+◌, ◌-◌, ◌*◌, ◌/◌, ◌%◌, ◌^◌, Bool, true, false, List, [], ◌∷◌, ◌++◌, length, take, drop, replicate, nat_lt, slice_index}
+use Rattle.std.specs.Prelude.{ℕ, zero, suc, ◌-◌, ◌*◌, ◌/◌, ◌%◌, ◌^◌, Bool, true, false, List, [], ◌∷◌, ◌++◌, length, take, drop, replicate, nat_lt, slice_index}
 use Rattle.hash.specs.Word.{word_at}
 
 abbrev pub pick : {A : Type 0} → Bool → A → A → A

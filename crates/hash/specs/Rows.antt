@@ -1,5 +1,5 @@
 -- Sixteen words of a schedule in a row, and sixteen turns over them. Assumes nothing.
-use Rattle.std.specs.Prelude.{◌≡◌, ℕ, ◌+◌, ◌<◌}
+use Rattle.std.specs.Prelude.{◌≡◌, ℕ, ◌+◌}
 use Rattle.hash.specs.declared.word.Sixteen.{Sixteen}
 
 -- x holds v 0 to v 15

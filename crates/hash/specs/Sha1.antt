@@ -1,5 +1,5 @@
 -- FIPS 180-4: SHA-1 (sections 4.1.1, 4.2.1, 5.3.1 and 6.1). Assumes nothing.
-use Rattle.std.specs.Prelude.{◌≡◌, ℕ, zero, suc, ◌+◌, ◌-◌, ◌*◌, ◌<◌, List, [], ◌∷◌, ◌++◌, bit_xor, nat_lt, slice_index}
+use Rattle.std.specs.Prelude.{◌≡◌, ℕ, ◌+◌, ◌-◌, ◌<◌, List, ◌++◌, bit_xor, nat_lt, slice_index}
 use Rattle.hash.specs.Word.{ROTL, ◌⊞◌, Ch, Parity, Maj}
 use Rattle.hash.specs.Blocks.{pick, words, turns, hashed, big_endian}
 use Rattle.hash.specs.declared.sha1.Words.{Words}

@@ -1,5 +1,5 @@
 -- FIPS 180-4: SHA-256 (sections 4.1.2, 4.2.2, 5.3.3 and 6.2). Assumes nothing.
-use Rattle.std.specs.Prelude.{◌≡◌, ℕ, zero, suc, ◌+◌, ◌-◌, ◌*◌, ◌<◌, List, [], ◌∷◌, ◌++◌, bit_xor, slice_index}
+use Rattle.std.specs.Prelude.{◌≡◌, ℕ, ◌+◌, ◌-◌, ◌<◌, List, [], ◌∷◌, ◌++◌, bit_xor, slice_index}
 use Rattle.hash.specs.Word.{ROTR, SHR, ◌⊞◌, Ch, Maj}
 use Rattle.hash.specs.Blocks.{words, turns, hashed, big_endian}
 use Rattle.hash.specs.declared.sha256.Words.{Words}

@@ -1,5 +1,5 @@
 -- A message that comes a part at a time, for any hash of blocks of 64 bytes. Assumes nothing.
-use Rattle.std.specs.Prelude.{◌≡◌, ℕ, ◌+◌, ◌-◌, ◌*◌, ◌/◌, ◌%◌, ◌^◌, ◌<◌, ◌≤◌, min, List, [], ◌∷◌, ◌++◌, length, take, drop}
+use Rattle.std.specs.Prelude.{◌≡◌, ℕ, ◌+◌, ◌-◌, ◌*◌, ◌<◌, ◌≤◌, min, List, ◌++◌, length, take, drop}
 use Rattle.hash.specs.Blocks.{run, padding}
 use Rattle.hash.specs.declared.buffer.Buffer.{Buffer}
 use Rattle.hash.specs.declared.buffer.Tail.{Tail}

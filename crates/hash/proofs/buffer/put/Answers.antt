@@ -1,6 +1,6 @@
 -- `hash::buffer::put` meets its contract: the bytes copied so far are those of the source, and the rest is as it was. Assumes nothing.
-use Rattle.std.proofs.Common.{◌≡◌, ◌-◌, ◌≤◌, length, drop, refl, arith, length-set, rules}
-use lib.Seq.{paste, paste-zero}
+use Rattle.std.proofs.Common.{◌≡◌, drop, refl, arith, length-set, rules}
+use lib.Seq.{paste-zero}
 use Rattle.hash.proofs.Laws.{copied}
 use Rattle.hash.proofs.buffer.put.Goals as goal
 

@@ -1,6 +1,5 @@
-use Rattle.std.proofs.Common.{◌≡◌, ◌-◌, ◌≤◌, length, drop, refl, arith, length-set, rules}
-use lib.Seq.{paste, paste-zero}
-use Rattle.hash.proofs.Laws.{copied}
+use Rattle.std.proofs.Common.{◌≡◌, ◌-◌, ◌≤◌, length, drop}
+use lib.Seq.{paste}
 use Rattle.hash.proofs.buffer.put.Given as goal
 
 abbrev pub invariant-loop-j : goal.invariant-loop-j

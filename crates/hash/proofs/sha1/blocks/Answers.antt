@@ -1,6 +1,5 @@
 -- `hash::sha1::blocks` meets its contract: the blocks passed are taken in, so that those from the place on are left. Assumes nothing.
-use Rattle.std.proofs.Common.{◌≡◌, ◌-◌, ◌/◌, ◌≤◌, length, drop, sym, refl, ◌∙◌, arith}
-use Rattle.hash.specs.Blocks.{run}
+use Rattle.std.proofs.Common.{sym, refl, ◌∙◌, arith}
 use Rattle.hash.proofs.StreamLaws.{block_more, block_none}
 use Rattle.hash.specs.Sha1 as sha
 use Rattle.hash.proofs.sha1.blocks.Goals as goal

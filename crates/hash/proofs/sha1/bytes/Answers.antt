@@ -1,5 +1,5 @@
 -- `hash::sha1::bytes` meets its contract: each word gives its four bytes, the highest first. Assumes nothing.
-use Rattle.std.proofs.Common.{refl, rules}
+use Rattle.std.proofs.Common.{refl}
 use Rattle.hash.proofs.Laws.{cons}
 use Rattle.hash.specs.Blocks.{big_endian}
 use Rattle.hash.specs.Sha1.{bytes}

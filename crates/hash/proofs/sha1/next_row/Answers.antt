@@ -1,5 +1,5 @@
 -- `hash::sha1::next_row` meets its contract: each word is mixed from four that stand where the rule of the schedule says. Assumes nothing.
-use Rattle.std.proofs.Common.{◌≡◌, sym, ◌∙◌, lit<, rules}
+use Rattle.std.proofs.Common.{◌≡◌, sym, ◌∙◌, lit<}
 use Rattle.hash.specs.Sha1.{mix}
 use Rattle.hash.proofs.Laws.{cong4}
 use Rattle.hash.proofs.sha1.next_row.Goals as goal

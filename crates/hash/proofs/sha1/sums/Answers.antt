@@ -1,5 +1,4 @@
 -- `hash::sha1::sums` meets its contract: word by word. Assumes nothing.
-use Rattle.std.proofs.Common.{rules}
 use Rattle.hash.specs.Sha1.{sums}
 use Rattle.hash.proofs.sha1.sums.Goals as goal
 

@@ -1,5 +1,4 @@
 -- `hash::sha1::turn` meets its contract: it is the step of the definition, sum by sum. Assumes nothing.
-use Rattle.std.proofs.Common.{rules}
 use Rattle.hash.specs.Sha1.{step}
 use Rattle.hash.proofs.sha1.turn.Goals as goal
 

@@ -1,5 +1,5 @@
 -- `hash::sha1::turn_last` meets its contract: from turn 60 on the function is Parity and the constant the last. Assumes nothing.
-use Rattle.std.proofs.Common.{◌≤◌, arith, rules, le-ltb}
+use Rattle.std.proofs.Common.{◌≤◌, arith, le-ltb}
 use Rattle.hash.specs.Sha1 as sha
 use Rattle.hash.proofs.sha1.turn_last.Goals as goal
 

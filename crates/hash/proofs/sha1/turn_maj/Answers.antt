@@ -1,5 +1,5 @@
 -- `hash::sha1::turn_maj` meets its contract: in the turns from 40 to 59 the function is Maj and the constant the third. Assumes nothing.
-use Rattle.std.proofs.Common.{◌≤◌, arith, rules, le-ltb, lt-ltb}
+use Rattle.std.proofs.Common.{◌≤◌, arith, le-ltb, lt-ltb}
 use Rattle.hash.specs.Sha1 as sha
 use Rattle.hash.proofs.sha1.turn_maj.Goals as goal
 

@@ -1,5 +1,5 @@
 -- `hash::sha1::turns0` meets its contract: sixteen turns, each over the word of its number. Assumes nothing.
-use Rattle.std.proofs.Common.{ap, ◌∙◌, lit<, rules}
+use Rattle.std.proofs.Common.{ap, ◌∙◌, lit<}
 use Rattle.hash.specs.Rows.{sixteen}
 use Rattle.hash.specs.Sha1.{turn}
 use Rattle.hash.proofs.sha1.turns0.Goals as goal

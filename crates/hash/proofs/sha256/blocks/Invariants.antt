@@ -1,6 +1,5 @@
-use Rattle.std.proofs.Common.{◌≡◌, ◌-◌, ◌/◌, ◌≤◌, length, drop, sym, refl, ◌∙◌, arith}
+use Rattle.std.proofs.Common.{◌≡◌, ◌-◌, ◌/◌, ◌≤◌, length, drop}
 use Rattle.hash.specs.Blocks.{run}
-use Rattle.hash.proofs.StreamLaws.{block_more, block_none}
 use Rattle.hash.specs.Sha256 as sha
 use Rattle.hash.proofs.sha256.blocks.Given as goal
 

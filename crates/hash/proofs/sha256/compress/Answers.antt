@@ -1,5 +1,5 @@
 -- `hash::sha256::compress` meets its contract: the rows are the schedule of the block, so that the turns over them are all turns. Assumes nothing.
-use Rattle.std.proofs.Common.{◌≡◌, ◌+◌, get_or, take, drop, ap, ◌∙◌, lit≤, rules}
+use Rattle.std.proofs.Common.{◌≡◌, ◌+◌, get_or, take, drop, ap, ◌∙◌, lit≤}
 use Rattle.hash.specs.Blocks.{turns}
 use Rattle.hash.specs.Rows.{Row, sixteen}
 use Rattle.hash.specs.Sha256.{next, schedule, turn, sums, compress}

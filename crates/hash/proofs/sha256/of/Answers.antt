@@ -1,5 +1,5 @@
 -- `hash::sha256::of` meets its contract: a message taken in at once. Assumes nothing.
-use Rattle.std.proofs.Common.{[], arith, rules}
+use Rattle.std.proofs.Common.{[], arith}
 use Rattle.hash.proofs.sha256.of.Goals as goal
 
 pub finish-requires : goal.finish-requires

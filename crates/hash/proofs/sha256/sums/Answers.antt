@@ -1,5 +1,4 @@
 -- `hash::sha256::sums` meets its contract: word by word. Assumes nothing.
-use Rattle.std.proofs.Common.{rules}
 use Rattle.hash.specs.Sha256.{sums}
 use Rattle.hash.proofs.sha256.sums.Goals as goal
 

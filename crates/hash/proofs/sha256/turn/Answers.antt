@@ -1,5 +1,4 @@
 -- `hash::sha256::turn` meets its contract: it is the step of the definition, sum by sum. Assumes nothing.
-use Rattle.std.proofs.Common.{rules}
 use Rattle.hash.specs.Sha256.{step}
 use Rattle.hash.proofs.sha256.turn.Goals as goal
 

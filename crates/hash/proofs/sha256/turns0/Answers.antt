@@ -1,5 +1,5 @@
 -- `hash::sha256::turns0` meets its contract: sixteen turns, each over the word of its number. Assumes nothing.
-use Rattle.std.proofs.Common.{ap, ◌∙◌, rules}
+use Rattle.std.proofs.Common.{ap, ◌∙◌}
 use Rattle.hash.specs.Rows.{sixteen}
 use Rattle.hash.specs.Sha256.{turn}
 use Rattle.hash.proofs.sha256.turns0.Goals as goal

@@ -1,5 +1,5 @@
 -- `hash::word::row_at` meets its contract: each word is read from four bytes, four places behind the one before. Assumes nothing.
-use Rattle.std.proofs.Common.{arith, rules}
+use Rattle.std.proofs.Common.{arith}
 use Rattle.hash.proofs.word.row_at.Goals as goal
 
 pub overflow_add-at-13 : goal.overflow_add-at-13

@@ -1,5 +1,5 @@
 -- `hash::sha1::State::finish` meets its contract: the rest with its padding is the end of the padded message. Assumes nothing.
-use Rattle.std.proofs.Common.{sym, length-take-le, rules}
+use Rattle.std.proofs.Common.{sym, length-take-le}
 use Rattle.hash.specs.Sha1.{compress, initial, sha1}
 use Rattle.hash.proofs.StreamLaws.{last}
 use Rattle.hash.proofs.sha1.State.finish.Goals as goal

@@ -1,5 +1,5 @@
 -- `hash::sha256::State::finish` meets its contract: the rest with its padding is the end of the padded message. Assumes nothing.
-use Rattle.std.proofs.Common.{sym, length-take-le, rules}
+use Rattle.std.proofs.Common.{sym, length-take-le}
 use Rattle.hash.specs.Sha256.{compress, initial, sha256}
 use Rattle.hash.proofs.StreamLaws.{last}
 use Rattle.hash.proofs.sha256.State.finish.Goals as goal

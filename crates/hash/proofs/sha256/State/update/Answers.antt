@@ -1,5 +1,4 @@
 -- `hash::sha256::State::update` meets its contract: either the bytes do not fill the block, or they fill it and what follows is blocks and a rest. Assumes nothing.
-use Rattle.std.proofs.Common.{rules}
 use Rattle.hash.specs.Sha256.{compress, initial}
 use Rattle.hash.proofs.StreamLaws.{short, long}
 use Rattle.hash.proofs.sha256.State.update.Goals as goal
