@@ -1,9 +1,7 @@
 -- `small_records::form::first_bad` meets its contract: the records passed have the form, so what is left decides, with four lines to a record. Assumes nothing.
-use lib.ListN.{length}
-use Prim.Native.Nat.{◌-◌, ◌<◌}
-use borrow.Author.Rules.{rules}
+use Prim.Native.Nat.{◌<◌}
 use native.Mathlib.Omega.{arith}
-use Rattle.small_records.proofs.FormLaws.{Forming, standing, broken_below, form_long, form_begin, form_more, form_broken, form_none, form_end}
+use Rattle.small_records.proofs.FormLaws.{standing, broken_below, form_long, form_begin, form_more, form_broken, form_none, form_end}
 use Rattle.lines.proofs.PlaceLaws.{from}
 use Rattle.small_records.specs.Answers.{nextRead}
 use Rattle.small_records.proofs.form.first_bad.Goals as goal

@@ -2,7 +2,6 @@
 use mathlib.Core.Option.{none, some}
 use mathlib.Core.Bool.{cond}
 use mathlib.Core.Path.{◌≡◌}
-use borrow.Author.Rules.{rules}
 use Rattle.small_records.specs.Answers.{asOp}
 use Rattle.small_records.proofs.PlaceLaws.{id_is, no_id}
 use Rattle.small_records.specs.Places.{id_at}

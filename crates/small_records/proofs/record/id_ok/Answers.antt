@@ -1,6 +1,5 @@
 -- `small_records::record::id_ok` meets its contract: an upsert has an id of the width in hex, and a removal none. Assumes nothing.
 use mathlib.Core.Path.{sym, ap, ◌∙◌}
-use borrow.Author.Rules.{rules}
 use Rattle.small_records.proofs.PlaceLaws.{id_of_upsert, id_no_hex, id_of_removal}
 use Rattle.small_records.specs.Answers.{asOp}
 use Rattle.model.specs.Walk.{ANY, LEAF}

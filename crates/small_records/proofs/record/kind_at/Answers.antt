@@ -3,7 +3,6 @@ use lib.ListN.{length}
 use Prim.Native.Nat.{◌<◌, ◌+◌}
 use native.Mathlib.Omega.{arith}
 use mathlib.Core.Path.{◌≡◌}
-use borrow.Author.Rules.{rules}
 use Rattle.lines.proofs.PlaceLaws.{inside}
 use Rattle.small_records.proofs.PlaceLaws.{kind_is, no_kind}
 use Rattle.small_records.specs.Records.{kind_key}

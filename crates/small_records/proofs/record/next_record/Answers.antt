@@ -4,7 +4,6 @@ use lib.ListN.{length}
 use Prim.Native.Nat.{◌+◌, ◌<◌}
 use mathlib.Core.Option.{some}
 use mathlib.Core.Path.{◌≡◌}
-use borrow.Author.Rules.{rules}
 use Rattle.small_records.proofs.NextLaws.{at_end, bad_op, bad_path_lem, bad_kind, bad_id, whole_record, path_inside, id_inside}
 use Rattle.lines.proofs.PlaceLaws.{from}
 use Rattle.small_records.specs.Places.{op_at, path_at, kind_at, id_at}

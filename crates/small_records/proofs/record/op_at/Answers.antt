@@ -3,7 +3,6 @@ use lib.ListN.{length}
 use Prim.Native.Nat.{◌<◌, ◌+◌}
 use native.Mathlib.Omega.{arith}
 use mathlib.Core.Path.{◌≡◌}
-use borrow.Author.Rules.{rules}
 use Rattle.lines.proofs.PlaceLaws.{inside}
 use Rattle.small_records.proofs.PlaceLaws.{op_is, no_op}
 use Rattle.small_records.specs.Records.{op_key}

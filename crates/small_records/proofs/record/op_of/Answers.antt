@@ -1,6 +1,5 @@
 -- `small_records::record::op_of` meets its contract: an upsert has a mode, and a removal none. Assumes nothing.
 use mathlib.Core.Path.{◌≡◌, ap}
-use borrow.Author.Rules.{rules}
 use Rattle.small_records.proofs.PlaceLaws.{kind_of_upsert, kind_of_removal, kind_in_removal}
 use Rattle.small_records.specs.Records.{put_as, op_of}
 use Rattle.small_records.specs.Answers.{asVerb}

@@ -2,7 +2,6 @@
 use mathlib.Core.Option.{none, some}
 use mathlib.Core.Bool.{cond}
 use mathlib.Core.Path.{◌≡◌}
-use borrow.Author.Rules.{rules}
 use Rattle.small_records.proofs.PlaceLaws.{path_is, no_path}
 use Rattle.small_records.specs.Places.{path_at}
 use Rattle.small_records.proofs.record.path_at.Goals as goal

@@ -1,5 +1,4 @@
 -- `small_records::record::verb_of` meets its contract: three words are compared, one after the other. Assumes nothing.
-use borrow.Author.Rules.{rules}
 use Rattle.small_records.specs.Records.{verb_of}
 use Rattle.small_records.proofs.record.verb_of.Goals as goal
 
