@@ -5,7 +5,6 @@ use native.Mathlib.Omega.{arith}
 use lib.ListN.{length, drop, length-drop}
 use Prim.Native.Nat.{◌≤◌}
 use Rattle.tree_id.proofs.Laws.{header_held}
-use borrow.Author.Rules.{rules}
 use Rattle.tree_id.proofs.id20.begin.Goals as goal
 
 -- the digits are at most twenty

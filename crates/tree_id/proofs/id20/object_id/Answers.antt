@@ -5,7 +5,6 @@ use lib.ListN.{length, length-append}
 use Rattle.tree_id.specs.Ids.{header}
 use Rattle.hash.specs.Sha1.{bytes}
 use Rattle.tree_id.proofs.Laws.{header_short, id20}
-use borrow.Author.Rules.{rules}
 use Rattle.tree_id.proofs.id20.object_id.Goals as goal
 
 pub update-requires : goal.update-requires

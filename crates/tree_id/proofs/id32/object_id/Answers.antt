@@ -5,7 +5,6 @@ use lib.ListN.{length, length-append}
 use Rattle.tree_id.specs.Ids.{header}
 use Rattle.hash.specs.Sha256.{bytes}
 use Rattle.tree_id.proofs.Laws.{header_short, id32}
-use borrow.Author.Rules.{rules}
 use Rattle.tree_id.proofs.id32.object_id.Goals as goal
 
 pub update-requires : goal.update-requires
