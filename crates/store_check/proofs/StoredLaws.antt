@@ -6,7 +6,7 @@ use Prim.Native.Nat.{ℕ, ◌≤◌}
 use lib.ListN.{length, take}
 use Rattle.model.specs.Editor.{Format}
 use Rattle.model.specs.Formats.{sha1}
-use Rattle.model.specs.Valid.{root_held, write_good, valid}
+use Rattle.model.specs.Valid.{root_held, write_good}
 use Rattle.model.proofs.Basics.{and_left, and_right}
 use Rattle.store_slots.specs.View.{editor_of, tree_room, Holds}
 use Rattle.store_slots.specs.declared.Record.{Record}

@@ -1,5 +1,5 @@
 -- The open write of a store is one that can be: what its functions decide, and the parts of it. Assumes nothing.
-use Rattle.std.specs.Prelude.{◌≡◌, Bool, true, ◌&&◌, ◌||◌, ℕ, zero, suc, ◌≤◌, List, [], ◌∷◌, map, reverse, eqb, ltb, length, take, get_or}
+use Rattle.std.specs.Prelude.{◌≡◌, Bool, true, ◌&&◌, ◌||◌, ℕ, ◌≤◌, List, [], ◌∷◌, map, reverse, eqb, ltb, length, take, get_or}
 use Rattle.model.specs.Bytes.{Bytes, same, is_nil}
 use Rattle.model.specs.Map.{find, is_some}
 use Rattle.model.specs.Editor.{Held, at, Cache, start_path}

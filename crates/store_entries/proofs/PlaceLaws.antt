@@ -20,7 +20,6 @@ use Rattle.model.specs.Search.{searched}
 use Rattle.model.proofs.SearchLaws.{Right}
 use Rattle.model.proofs.SoundTrees.{sound_well, name_plain, find_key, del_absent}
 use Rattle.model.proofs.RoomCounts.{name_of}
-use Rattle.model.specs.Editor.{at}
 use Rattle.model.proofs.WellFormedLaws.{sound_del, sound_distinct, well_with, good_del}
 use Rattle.store_runs.specs.Moves.{inserted, removed}
 use Rattle.names_compact.specs.Compact.{packed, packed_all, unpack, Run, blank, entry_at, spot_of, Tells}

@@ -1,0 +1,11 @@
+-- `store_taken::pop` meets its contract: the first word of the table's back is its slot. Assumes nothing.
+use mathlib.Core.Path.{refl}
+use Prim.Native.Nat.{◌-◌}
+use Rattle.store_slots.specs.declared.Record.{Record}
+use Rattle.store_taken.proofs.Steps.{pop_between, pop_going}
+use Rattle.store_taken.proofs.pop.Goals as goal
+
+pub returns : goal.returns
+returns c =
+    let a = c.args in
+    let q : Record = record { free = a.r.free; hidden = a.r.hidden; paths = a.r.paths; trees = a.r.trees; entries = a.r.entries; names = a.r.names; «open» = a.r.«open»; aside = a.r.aside; stacked = a.r.stacked - 1; asked = a.r.asked } in record { going = pop_going a.r a.order.now c.requires.0 q (record { free = refl; hidden = refl; «open» = refl; aside = refl; stacked = refl }) c.requires.1; between = pop_between a.r a.order.now c.requires.0 q (record { free = refl; hidden = refl; «open» = refl; aside = refl; stacked = refl }) c.requires.1; same = (record { free = refl; paths = refl; trees = refl; entries = refl; names = refl }, refl, refl, refl, refl, refl) }

@@ -1,0 +1,11 @@
+-- `store_taken::set_aside` meets its contract: the slot becomes the last word at the front of the table. Assumes nothing.
+use mathlib.Core.Path.{refl}
+use Prim.Native.Nat.{◌+◌}
+use Rattle.store_slots.specs.declared.Record.{Record}
+use Rattle.store_taken.proofs.Steps.{aside_between, aside_going}
+use Rattle.store_taken.proofs.set_aside.Goals as goal
+
+pub returns : goal.returns
+returns c =
+    let a = c.args in
+    let q : Record = record { free = a.r.free; hidden = a.r.hidden; paths = a.r.paths; trees = a.r.trees; entries = a.r.entries; names = a.r.names; «open» = a.r.«open»; aside = a.r.aside + 1; stacked = a.r.stacked; asked = a.r.asked } in record { going = aside_going a.r a.order.now a.slot c.requires q (record { free = refl; hidden = refl; «open» = refl; aside = refl; stacked = refl }); between = aside_between a.r a.order.now a.slot c.requires q (record { free = refl; hidden = refl; «open» = refl; aside = refl; stacked = refl }); same = (record { free = refl; paths = refl; trees = refl; entries = refl; names = refl }, refl, refl, refl, refl, refl) }
