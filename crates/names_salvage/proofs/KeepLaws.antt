@@ -1,5 +1,5 @@
 -- Laws of an entry that is kept: it goes into the tree where its number goes into the table, the counts grow by it, and the order is changed unless it goes to the end. Assumes nothing.
-use Prim.Native.Nat.{ℕ, zero, suc, ◌+◌, ◌-◌, ◌*◌, ◌/◌, ◌%◌, ◌≤◌, ◌<◌, Ordering}
+use Prim.Native.Nat.{ℕ, zero, suc, ◌+◌, ◌-◌, ◌*◌, ◌≤◌, ◌<◌, Ordering}
 use mathlib.Core.Path.{◌≡◌, refl, sym, ap, ap₂, ◌∙◌, subst}
 use mathlib.Core.Bool.{Bool, true, false, cond, not, ◌&&◌, true≢false}
 use mathlib.Core.List.{List, [], ◌∷◌, ◌++◌}
@@ -11,7 +11,7 @@ use lib.Seq.{length-take-le}
 use Rattle.model.specs.Bytes.{Bytes, cmp, by}
 use Rattle.model.specs.Map.{put, rising, rising_from, is_some}
 use Rattle.model.specs.Raw.{raw_entry, raw_tree}
-use Rattle.model.specs.Tree.{is_tree, Entry, Tree, as_kind, key, entry_of, good_name, good_entries, name_bytes}
+use Rattle.model.specs.Tree.{Entry, Tree, as_kind, key, entry_of, good_name, good_entries, name_bytes}
 use Rattle.model.proofs.Basics.{and_left, and_right}
 use Rattle.model.proofs.MapLaws.{cmp_lt, cmp_trans, above_head, above_tail, rising_put}
 use Rattle.model.proofs.SearchLaws.{rising_high}

@@ -1,11 +1,11 @@
 -- Laws of the answer: what the pass knows at its end is what the definition says, limit by limit. Assumes nothing.
 use Prim.Native.Nat.{ℕ, ◌-◌, ◌≤◌, ◌<◌}
-use mathlib.Core.Path.{◌≡◌, refl, sym, ap, ap₂, ◌∙◌, subst}
-use mathlib.Core.Bool.{Bool, true, false, cond, ◌&&◌, ◌||◌}
+use mathlib.Core.Path.{◌≡◌, sym, ap, ◌∙◌, subst}
+use mathlib.Core.Bool.{Bool, true, false, ◌||◌}
 use mathlib.Core.List.{List}
 use native.Mathlib.Omega.{arith}
-use lib.Dec.{leb, ltb, eqb}
-use borrow.Author.Tests.{le-leb, lt-leb, lt-ltb, le-ltb, eq-eqb, ne_eqb}
+use lib.Dec.{eqb}
+use borrow.Author.Tests.{le-leb, lt-leb, lt-ltb, le-ltb}
 use lib.ListN.{length}
 use Rattle.model.specs.Bytes.{Bytes}
 use Rattle.model.specs.Raw.{raw_tree}
@@ -13,7 +13,7 @@ use Rattle.model.specs.Tree.{name_bytes}
 use Rattle.model.proofs.Basics.{and_false}
 use Rattle.names.specs.Splice.{splice}
 use Rattle.names_salvage.specs.Answers.{Holds, mendedOf, PassedTo, Passed}
-use Rattle.names_salvage.specs.Mending.{Mended, sorted, within, Answer, refusal, told, mended, salvaged}
+use Rattle.names_salvage.specs.Mending.{Mended, sorted, within, refusal, told, mended, salvaged}
 use Rattle.names_salvage.specs.Pieces.{pieces_of}
 use Rattle.names_salvage.specs.declared.pass.Tally.{Tally}
 

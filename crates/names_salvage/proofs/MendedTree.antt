@@ -1,31 +1,27 @@
 -- A mended tree is well formed; the entries read and the bytes left are the input, and each entry is kept or counted once; where nothing was dropped or moved what comes out is what was read. Assumes nothing.
-use Prim.Native.Nat.{ℕ, zero, suc, ◌+◌, ◌≤◌, ◌<◌, Ordering}
-use mathlib.Core.Path.{◌≡◌, refl, sym, ap, ap₂, ◌∙◌, subst}
-use mathlib.Core.Bool.{Bool, true, false, cond, not, ◌&&◌, true≢false}
+use Prim.Native.Nat.{ℕ, zero, suc, ◌+◌, Ordering}
+use mathlib.Core.Path.{◌≡◌, refl, sym, ap, ◌∙◌}
+use mathlib.Core.Bool.{Bool, true, false, cond, not, true≢false}
 use mathlib.Core.List.{List, [], ◌∷◌, ◌++◌, append_assoc, append-nil}
 use mathlib.Core.Option.{Option, none, some}
 use native.Mathlib.Omega.{arith}
-use lib.Dec.{leb, eqb}
-use borrow.Author.Tests.{le-leb, leb-true}
 use lib.ListN.{length, length-append}
-use Rattle.model.specs.Bytes.{Bytes, cmp, by}
-use Rattle.model.specs.Map.{find, put, rising, rising_from, is_some}
-use Rattle.model.specs.Order.{All}
+use Rattle.model.specs.Bytes.{Bytes, cmp}
+use Rattle.model.specs.Map.{find, put, is_some}
 use Rattle.model.specs.Raw.{octal, mode_of, raw_entry, raw_tree, read_tree}
-use Rattle.model.specs.Tree.{Mode, is_tree, Entry, Tree, as_kind, key, or_else, entry_of, with_entry, good_name, name_bytes, well_formed}
-use Rattle.model.proofs.Basics.{none_some, some_none, some_inj, and_left, and_right}
+use Rattle.model.specs.Tree.{Mode, is_tree, Entry, Tree, as_kind, key, or_else, entry_of, good_name, well_formed}
+use Rattle.model.proofs.Basics.{some_none, and_left, and_right}
 use Rattle.model.proofs.MapLaws.{cmp_lt}
-use Rattle.model.proofs.RawLaws.{mode_of_lem, read_back, read_only}
+use Rattle.model.proofs.RawLaws.{mode_of_lem, read_back}
 use Rattle.model.proofs.SoundTrees.{del_absent}
 use Rattle.model.proofs.WellFormedLaws.{well_with}
 use Rattle.names.specs.Check.{is_less}
-use Rattle.names.specs.Splice.{splice}
 use Rattle.names.proofs.WriteLaws.{raw_snoc}
 use Rattle.names_salvage.specs.Answers.{mendedOf}
-use Rattle.names_salvage.specs.Mending.{Mended, nothing, sorted, above, keep, keep_as, mend1, mend_all, within, Answer, refusal, told, mended}
-use Rattle.names_salvage.specs.Pieces.{Piece, Pieces, piece_of, read_on, pieces_in, pieces_of, raw_piece, raw_pieces}
-use Rattle.names_salvage.proofs.KeepLaws.{sorted_with, below_all}
-use Rattle.names_salvage.proofs.PassLaws.{Split, piece_split, no_bytes, pieces_some, pieces_none, piece_nil, mend_cons, mend_nil}
+use Rattle.names_salvage.specs.Mending.{Mended, nothing, sorted, above, keep_as, mend1, mend_all}
+use Rattle.names_salvage.specs.Pieces.{Piece, piece_of, read_on, pieces_in, pieces_of, raw_piece, raw_pieces}
+use Rattle.names_salvage.proofs.KeepLaws.{sorted_with}
+use Rattle.names_salvage.proofs.PassLaws.{piece_split, no_bytes}
 
 -- what holds of each case of an entry holds of what is made of it
 pub by_cases : (P : Mended → Type 0) (x : Piece) (m : Mended) →

@@ -1,25 +1,25 @@
 -- Laws of the pass: what was read is the entries' bytes, so that what is left gives the answer of the whole; and entries kept stay kept, so that a limit once passed is passed in the end. Assumes nothing.
-use Prim.Native.Nat.{ℕ, zero, suc, ◌+◌, ◌-◌, ◌*◌, ◌/◌, ◌%◌, ◌≤◌, ◌<◌}
-use mathlib.Core.Path.{◌≡◌, refl, sym, ap, ap₂, ◌∙◌, subst}
+use Prim.Native.Nat.{ℕ, zero, suc, ◌+◌, ◌-◌, ◌≤◌, ◌<◌}
+use mathlib.Core.Path.{◌≡◌, refl, sym, ap, ◌∙◌, subst}
 use mathlib.Core.Bool.{Bool, true, false, cond, ◌&&◌, true≢false}
 use mathlib.Core.List.{List, [], ◌∷◌, ◌++◌, append_assoc}
 use mathlib.Core.Option.{Option, none, some}
 use native.Mathlib.Omega.{arith}
 use lib.Dec.{leb, ltb, eqb}
-use borrow.Author.Tests.{le-leb, lt-leb, leb-true, leb-false, ltb-true, eqb-true}
-use lib.ListN.{length, take, drop, length-append, length-drop, length-take, take-append-drop}
+use borrow.Author.Tests.{le-leb, leb-true, ltb-true, eqb-true}
+use lib.ListN.{length, take, drop, length-append, length-drop, take-append-drop}
 use lib.Seq.{length-take-le}
 use Rattle.model.specs.Bytes.{Bytes}
 use Rattle.model.specs.Map.{is_some}
 use Rattle.model.specs.Raw.{octal, mode_of, raw_entry}
 use Rattle.model.specs.Tree.{Mode, is_tree, Entry, Tree, key, entry_of, good_name, name_bytes}
-use Rattle.model.proofs.Basics.{none_some, some_inj, and_left, and_right, and_false}
+use Rattle.model.proofs.Basics.{none_some, some_inj}
 use Rattle.model.proofs.RawLaws.{mode_of_lem}
 use Rattle.model.proofs.ValidLaws.{octal_length}
 use Rattle.names.specs.Places.{index_of}
 use Rattle.names.proofs.WriteLaws.{entry_long}
-use Rattle.names_salvage.specs.Answers.{StandsAt, piece_at, ReadIn, ReadAs, Stands, Enters, Lists, Holds, TurnedTo, Turned, mendedOf, PassedTo, Passed}
-use Rattle.names_salvage.specs.Mending.{Mended, nothing, sorted, above, keep, keep_as, mend1, mend_all, fits, within}
+use Rattle.names_salvage.specs.Answers.{StandsAt, piece_at, ReadIn, ReadAs, Enters, Holds, TurnedTo, Turned, mendedOf, PassedTo, Passed}
+use Rattle.names_salvage.specs.Mending.{Mended, nothing, sorted, above, keep_as, mend1, mend_all, within}
 use Rattle.names_salvage.specs.Pieces.{Piece, Pieces, piece_of, read_on, pieces_in, pieces_of}
 use Rattle.names_salvage.specs.declared.pass.Tally.{Tally}
 use Rattle.names_salvage.specs.declared.piece.Read.{Read}

@@ -1,15 +1,14 @@
 -- Laws of reading an entry as it stands: each test of the bytes is one that the definition makes, in the same order, so the first that fails decides. Assumes nothing.
 use Prim.Native.Nat.{ℕ, suc, ◌+◌, ◌-◌, ◌≤◌, ◌<◌}
 use mathlib.Core.Path.{◌≡◌, refl, sym, ap, ◌∙◌}
-use mathlib.Core.Option.{none, some}
-use mathlib.Core.List.{[]}
+use mathlib.Core.Option.{none}
 use native.Mathlib.Omega.{arith}
-use lib.ListN.{length, take, drop, length-drop, drop_of_length-le}
+use lib.ListN.{length, drop, length-drop, drop_of_length-le}
 use lib.Seq.{drop-drop}
 use borrow.Author.Tests.{le-leb, lt-leb, lt-ltb, le-ltb}
 use Rattle.model.specs.Bytes.{Bytes}
 use Rattle.names.specs.Places.{index_of}
-use Rattle.names_salvage.specs.Pieces.{Piece, piece_of}
+use Rattle.names_salvage.specs.Pieces.{piece_of}
 use Rattle.names_salvage.specs.Answers.{StandsAt}
 
 module _ (raw : Bytes) (at w : ℕ) where

@@ -1,17 +1,17 @@
 -- Laws of the place of a name: what the two searches say of the tree, and where an entry goes whose name is not there. Assumes nothing.
-use Prim.Native.Nat.{ℕ, zero, suc, ◌≤◌, ◌<◌, Ordering}
+use Prim.Native.Nat.{ℕ, zero, suc, ◌≤◌, Ordering}
 use mathlib.Core.Path.{◌≡◌, refl, sym, ap, ◌∙◌, subst}
 use mathlib.Core.Bool.{Bool, true, false, true≢false}
 use mathlib.Core.List.{List, [], ◌∷◌, ◌++◌}
 use mathlib.Core.Option.{Option, none, some}
 use native.Mathlib.Omega.{arith}
 use lib.ListN.{length, take, drop}
-use Rattle.model.specs.Bytes.{Bytes, cmp, same, by}
+use Rattle.model.specs.Bytes.{Bytes, cmp, by}
 use Rattle.model.specs.Map.{find, put, rising, rising_from, is_some}
 use Rattle.model.specs.Search.{Spot, hit, miss, searched}
 use Rattle.model.specs.Tree.{BLOB, is_tree, Entry, Tree, as_kind, key, or_else, entry_of}
 use Rattle.model.proofs.ByteLaws.{same_not}
-use Rattle.model.proofs.MapLaws.{cmp_refl, cmp_eq, cmp_lt, cmp_gt, cmp_trans, above_head, above_tail, put_front}
+use Rattle.model.proofs.MapLaws.{cmp_refl, cmp_lt, cmp_gt, cmp_trans, above_head, above_tail, put_front}
 use Rattle.model.proofs.SearchLaws.{Right, halving_right, above_place}
 use Rattle.names_compact.specs.Compact.{spot_of, begun}
 use Rattle.names_compact.proofs.TwinLaws.{tree_before_lem, no_tree_lem}

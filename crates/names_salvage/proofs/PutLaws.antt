@@ -1,6 +1,6 @@
 -- Laws of writing what is kept: an entry's own bytes are its raw form, and the entries of the table, one after the other, are that of the tree. Assumes nothing.
 use Prim.Native.Nat.{ℕ, zero, suc, ◌+◌, ◌-◌, ◌/◌, ◌%◌, ◌≤◌, ◌<◌}
-use mathlib.Core.Path.{◌≡◌, refl, sym, ap, ap₂, ◌∙◌, subst}
+use mathlib.Core.Path.{◌≡◌, refl, sym, ap, ◌∙◌, subst}
 use mathlib.Core.Bool.{Bool, true, false, cond, ◌&&◌, true≢false}
 use mathlib.Core.List.{List, [], ◌∷◌, ◌++◌}
 use native.Mathlib.Numerals.{add-one}
@@ -8,13 +8,12 @@ use native.Mathlib.Omega.{arith}
 use lib.Dec.{eqb}
 use borrow.Author.Tests.{eqb-true, eqb-false, eq-eqb}
 use lib.ListN.{length, take, drop, get_or, length-append, length-drop}
-use lib.Seq.{take_at, take-suc, take-length, take_all, length-take-le}
+use lib.Seq.{take_at, take-suc, take_all}
 use Rattle.model.specs.Bytes.{Bytes, has}
-use Rattle.model.specs.Raw.{octal, raw_entry, raw_tree}
+use Rattle.model.specs.Raw.{raw_entry, raw_tree}
 use Rattle.model.specs.Tree.{Entry, Tree, good_name, good_entries}
 use Rattle.model.proofs.Basics.{and_left, and_right}
 use Rattle.model.proofs.ByteLaws.{has_here, has_past}
-use Rattle.names.specs.Check.{plain}
 use Rattle.names.specs.Places.{index_of}
 use Rattle.names.specs.Splice.{splice}
 use Rattle.names.proofs.StandingLaws.{no_nul, good_plain}

@@ -1,13 +1,13 @@
 -- Laws of the report: lines are put one behind the other, and the number decides which. Assumes nothing.
-use Prim.Native.Nat.{ℕ, ◌≤◌}
-use mathlib.Core.Path.{◌≡◌, refl, sym, ap, ◌∙◌, subst}
+use Prim.Native.Nat.{ℕ}
+use mathlib.Core.Path.{◌≡◌, sym, ap, subst}
 use mathlib.Core.List.{◌++◌}
 use native.Mathlib.Omega.{arith}
-use lib.ListN.{length, take, replicate}
+use lib.ListN.{take, replicate}
 use borrow.Author.Tests.{eq-eqb, ne_eqb}
 use Rattle.model.specs.Bytes.{Bytes}
 use Rattle.lines.specs.Answers.{outcome}
-use Rattle.lines.specs.Puts.{PutAt, Puts}
+use Rattle.lines.specs.Puts.{PutAt}
 use Rattle.lines.specs.Texts.{written}
 use Rattle.lines.specs.declared.text.Put.{Put}
 use Rattle.lines.specs.declared.text.Put.TheVariants.{At, Refused}

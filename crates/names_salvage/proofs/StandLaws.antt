@@ -1,26 +1,24 @@
 -- Laws of an entry of the table: the bytes from its name's place on are the name, a NUL and the rest, so what a good name shares with them it shares with the name. Assumes nothing.
 use Prim.Native.Nat.{Ordering}
-use Prim.Native.Nat.{ℕ, zero, suc, ◌+◌, ◌-◌, ◌/◌, ◌%◌, ◌≤◌, ◌<◌}
+use Prim.Native.Nat.{ℕ, ◌+◌, ◌-◌, ◌/◌, ◌%◌, ◌≤◌, ◌<◌}
 use mathlib.Core.Path.{◌≡◌, refl, sym, ap, ◌∙◌, subst}
 use mathlib.Core.Bool.{Bool, true, false, cond, true≢false}
-use mathlib.Core.List.{List, [], ◌∷◌, ◌++◌, append_assoc}
-use mathlib.Core.Option.{some}
+use mathlib.Core.List.{[], ◌∷◌, ◌++◌, append_assoc}
 use native.Mathlib.Omega.{arith}
 use lib.Dec.{leb, ltb, eqb}
 use borrow.Author.Tests.{leb-true, leb-false, ltb-true, ltb-false, eqb-true, eqb-false}
 use lib.ListN.{length, take, drop, get_or, length-append, length-drop, length-take, take-append-drop, get_or-eq_default, get_or-append}
-use lib.Seq.{drop-drop, drop_at, take_at, take-length, take-append-le, take_all, append_snoc, get_or-drop, get_or-append_seam, get_or-append-add, get_or-take, take-take}
+use lib.Seq.{drop-drop, drop_at, take_at, take-length, take-append-le, take_all, append_snoc, get_or-drop, get_or-append_seam, get_or-take}
 use Rattle.model.specs.Bytes.{Bytes, cmp, same}
 use Rattle.model.specs.Raw.{octal, mode_of, raw_entry}
-use Rattle.model.specs.Tree.{Mode, is_tree, Entry, Tree, as_kind, key, good_name}
+use Rattle.model.specs.Tree.{is_tree, Entry, as_kind, key, good_name}
 use Rattle.model.proofs.ByteLaws.{same_of, same_eq}
 use Rattle.model.proofs.MapLaws.{cmp_refl}
 use Rattle.names.specs.Check.{Shares, plain}
 use Rattle.names.proofs.ModeLaws.{text_read}
-use Rattle.names.proofs.OrderLaws.{in_name_lem, Comparing, ends_left, ends_right, ends_both, byte_less, byte_more, byte_same}
+use Rattle.names.proofs.OrderLaws.{in_name_lem, ends_left, ends_right, byte_less, byte_more}
 use Rattle.names.proofs.StandingLaws.{plain_append, plain_front, plain_begin, plain_slash, plain_nul, good_plain, shares_compare}
-use Rattle.names_compact.specs.Compact.{blank}
-use Rattle.names_salvage.specs.Answers.{Stands, Lists, ofTree}
+use Rattle.names_salvage.specs.Answers.{Stands, ofTree}
 
 -- no byte of a plain name is a slash or NUL
 plain_rest : (n : Bytes) (i : ℕ) → plain n ≡ true → plain (drop i n) ≡ true

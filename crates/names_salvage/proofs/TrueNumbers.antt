@@ -1,8 +1,8 @@
 -- The numbers are true of the input: an entry is counted as a double exactly if its name is among those kept before it, and `moved` is 0 exactly if the entries kept come out in the order in which they stood. Assumes nothing.
 use Prim.Native.Nat.{ℕ, zero, suc, Ordering}
-use mathlib.Core.Path.{◌≡◌, refl, sym, ap, ap₂, ◌∙◌, subst}
-use mathlib.Core.Bool.{Bool, true, false, cond, not, ◌||◌, true≢false}
-use mathlib.Core.List.{List, [], ◌∷◌, ◌++◌, map, reverse, reverse-cons}
+use mathlib.Core.Path.{◌≡◌, refl, sym, ap, ◌∙◌, subst}
+use mathlib.Core.Bool.{Bool, true, false, cond, ◌||◌, true≢false}
+use mathlib.Core.List.{List, [], ◌∷◌, ◌++◌, reverse, reverse-cons}
 use mathlib.Core.Option.{Option, none, some}
 use native.Mathlib.Omega.{arith}
 use lib.ListN.{length, take}
@@ -11,9 +11,9 @@ use Rattle.model.specs.Bytes.{Bytes, cmp, by, same}
 use Rattle.model.specs.Map.{find, put, rising, is_some}
 use Rattle.model.specs.Raw.{mode_of}
 use Rattle.model.specs.Tree.{Mode, is_tree, Entry, Tree, as_kind, key, or_else, entry_of, among, good_name, well_formed}
-use Rattle.model.proofs.Basics.{none_some, some_none, or_left, or_right}
+use Rattle.model.proofs.Basics.{none_some, some_none}
 use Rattle.model.proofs.ByteLaws.{same_eq, same_refl}
-use Rattle.model.proofs.MapLaws.{find_here, rising_tail, rising_put}
+use Rattle.model.proofs.MapLaws.{find_here, rising_tail}
 use Rattle.model.proofs.SearchLaws.{rising_low}
 use Rattle.model.proofs.SoundTrees.{sound_well, name_of, name_plain}
 use Rattle.model.proofs.WellFormedLaws.{found_tail}

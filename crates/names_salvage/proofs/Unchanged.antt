@@ -1,30 +1,28 @@
 -- A well-formed tree within the limits comes out unchanged, with all numbers zero: each of its entries is read, is none that is kept already, and goes to the end. And only such a tree does. Assumes nothing.
-use Prim.Native.Nat.{ℕ, zero, suc, ◌+◌, ◌≤◌, ◌<◌, Ordering}
+use Prim.Native.Nat.{ℕ, suc, ◌+◌, ◌≤◌, Ordering}
 use mathlib.Core.Path.{◌≡◌, refl, sym, ap, ap₂, ◌∙◌, subst}
 use mathlib.Core.Bool.{Bool, true, false, cond, not, ◌&&◌, true≢false}
-use mathlib.Core.List.{List, [], ◌∷◌, ◌++◌, map, append_assoc, append-nil}
-use mathlib.Core.Option.{Option, none, some}
+use mathlib.Core.List.{[], ◌∷◌, ◌++◌, append_assoc, append-nil}
+use mathlib.Core.Option.{none, some}
 use native.Mathlib.Omega.{arith}
-use lib.Dec.{leb, ltb, eqb}
+use lib.Dec.{leb, eqb}
 use borrow.Author.Tests.{le-leb, leb-true, lt-ltb, eqb-true}
-use lib.ListN.{length, take, drop, length-append}
-use lib.Seq.{take-append_seam, drop-append_seam, take_at, drop_at}
+use lib.ListN.{length, drop, length-append}
+use lib.Seq.{take-append_seam, take_at, drop_at}
 use Rattle.model.specs.Bytes.{Bytes, cmp, by, has}
-use Rattle.model.specs.Map.{find, put, rising, is_some}
+use Rattle.model.specs.Map.{find, put}
 use Rattle.model.specs.Raw.{octal, mode_of, raw_entry, raw_tree, read_tree}
-use Rattle.model.specs.Tree.{Mode, TREE, BLOB, EXEC, LINK, COMMIT, is_tree, Entry, Tree, as_kind, key, or_else, entry_of, good_name, good_entries, distinct, name_bytes, well_formed}
-use Rattle.model.proofs.Basics.{none_some, some_none, and_left, and_right}
+use Rattle.model.specs.Tree.{Mode, TREE, BLOB, EXEC, LINK, COMMIT, is_tree, Entry, Tree, as_kind, key, entry_of, good_name, good_entries, name_bytes, well_formed}
+use Rattle.model.proofs.Basics.{some_none, and_left, and_right}
 use Rattle.model.proofs.MapLaws.{cmp_lt, find_here}
 use Rattle.model.proofs.RawLaws.{read_only, well_entries}
-use Rattle.model.proofs.SearchLaws.{rising_high}
 use Rattle.model.proofs.SoundTrees.{Sound, sound_well, name_plain}
-use Rattle.names.specs.Check.{is_less, plain}
-use Rattle.names.specs.Places.{index_of}
+use Rattle.names.specs.Check.{is_less}
 use Rattle.names.specs.Splice.{splice}
 use Rattle.names.proofs.ModeLaws.{text_read}
 use Rattle.names.proofs.StandingLaws.{no_nul, good_plain}
 use Rattle.names_salvage.specs.Answers.{mendedOf}
-use Rattle.names_salvage.specs.Mending.{Mended, nothing, sorted, above, keep, keep_as, mend1, mend_all, fits, within, Answer, refusal, told, mended}
+use Rattle.names_salvage.specs.Mending.{Mended, nothing, sorted, above, mend1, mend_all, fits, within, Answer, refusal, told, mended}
 use Rattle.names_salvage.specs.Pieces.{Piece, Pieces, piece_of, pieces_of}
 use Rattle.names_salvage.proofs.KeepLaws.{sorted_with, below_all}
 use Rattle.names_salvage.proofs.MendedTree.{Untouched, only_well, entry_piece, put_last}

@@ -1,5 +1,5 @@
 -- Trees that are broken in one way each, with ids of one byte, and what is made of them. Assumes nothing.
-use Rattle.std.specs.Prelude.{ℕ, List, [], ◌∷◌, ◌++◌, replicate}
+use Rattle.std.specs.Prelude.{ℕ, [], ◌∷◌, ◌++◌, replicate}
 use Rattle.model.specs.Bytes.{Bytes}
 use Rattle.names_salvage.specs.Mending.{Answer}
 

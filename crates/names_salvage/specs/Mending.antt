@@ -7,7 +7,7 @@ use Rattle.model.specs.Raw.{mode_of, raw_tree}
 use Rattle.model.specs.Tree.{Mode, Entry, Tree, key, entry_of, good_name, name_bytes}
 use Rattle.names.specs.Check.{is_less}
 use Rattle.names.specs.Splice.{splice}
-use Rattle.names_salvage.specs.Pieces.{Piece, Pieces, pieces_of}
+use Rattle.names_salvage.specs.Pieces.{Piece, pieces_of}
 
 -- what is known after some entries: those kept, the last first, the counts of those dropped, and whether one was kept after one that it comes before
 pub record Mended : Type 0 where

@@ -1,5 +1,5 @@
 -- The report of a mended tree: five lines, in order, and the tree in hex; a refusal is one line with its number. Assumes nothing.
-use Rattle.std.specs.Prelude.{ℕ, [], ◌∷◌, ◌++◌, cond, eqb, ltb, length, take, replicate}
+use Rattle.std.specs.Prelude.{ℕ, [], ◌∷◌, ◌++◌, cond, eqb, take, replicate}
 use Rattle.model.specs.Bytes.{Bytes}
 use Rattle.lines.specs.Hex.{hex_of}
 use Rattle.lines.specs.Puts.{Puts}

@@ -70,8 +70,8 @@ module _ (lens bytes : List ℕ) (used k : ℕ) (ok : Sound lens bytes used) (h 
     widen_view = edited lens bytes used k ok h (λ (l : List ℕ). part bytes' a n) gap (set lens k n) bytes' (drop (used + n) bytes) gap_there (ap (set lens k) (sym gap_length)) stands
 
 -- a part that comes back with other bytes
-pub put_mid : (d s : List ℕ) (a k : ℕ) → length s ≡ k → take a d ++ (s ++ drop k (drop a d)) ≡ splice d a s
-put_mid d s a k e =
+pub put_mid_lem : (d s : List ℕ) (a k : ℕ) → length s ≡ k → take a d ++ (s ++ drop k (drop a d)) ≡ splice d a s
+put_mid_lem d s a k e =
     ap (λ (x : List ℕ). take a d ++ (s ++ x)) (drop-drop k a d ∙ ap (λ (x : ℕ). drop (a + x) d) (sym e)) ∙ sym (splice_is d a s)
 
 -- what is written over the whole gap is the run
