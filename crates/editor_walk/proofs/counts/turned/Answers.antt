@@ -1,0 +1,26 @@
+-- `editor_walk::counts::turned` meets its contract, by the turns. Assumes nothing.
+use mathlib.Core.Path.{sym, ap, ◌∙◌}
+use Rattle.editor_terms.specs.Edits.{counts_after}
+use Rattle.editor_terms.specs.declared.edit.Turn.{Turn}
+use Rattle.editor_walk.specs.Counted.{counts_as}
+use Rattle.editor_walk.proofs.counts.turned.Goals as goal
+
+pub returns-in-Stop : goal.returns-in-Stop
+returns-in-Stop c =
+    let a = c.args in
+    λ name e. sym (ap (λ (z : Turn). counts_after z a.seen name (counts_as a.u)) c.in-Stop.is)
+
+pub returns-in-Cut : goal.returns-in-Cut
+returns-in-Cut c =
+    let a = c.args in
+    λ name e. c.without_entry.ensures name e ∙ sym (ap (λ (z : Turn). counts_after z a.seen name (counts_as a.u)) c.in-Cut.is)
+
+pub returns-in-Put : goal.returns-in-Put
+returns-in-Put c =
+    let a = c.args in
+    λ name e. c.with_entry.ensures name e ∙ sym (ap (λ (z : Turn). counts_after z a.seen name (counts_as a.u)) c.in-Put.is)
+
+pub returns-in-Down : goal.returns-in-Down
+returns-in-Down c =
+    let a = c.args in
+    λ name e. sym (ap (λ (z : Turn). counts_after z a.seen name (counts_as a.u)) c.in-Down.is)

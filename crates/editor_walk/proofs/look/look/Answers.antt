@@ -1,0 +1,56 @@
+-- `editor_walk::look::look` meets its contract: what is left of the path decides, from the tree in the slot at hand. Assumes nothing.
+use Prim.Native.Nat.{◌+◌}
+use mathlib.Core.Path.{refl, sym, ap, ◌∙◌, subst}
+use native.Mathlib.Omega.{arith}
+use lib.ListN.{length, length-drop}
+use Rattle.model.specs.Bytes.{has}
+use Rattle.model.specs.Tree.{well_formed}
+use Rattle.names_compact.specs.Compact.{Run, unpack}
+use Rattle.store_slots.specs.View.{view_of, path_of}
+use Rattle.store_slots.proofs.Changes.{searched_run, tree_run}
+use Rattle.names.proofs.FrontLaws.{front_long, piece_short}
+use Rattle.editor_walk.proofs.ComponentLaws.{piece_plain}
+use Rattle.editor_walk.proofs.LookupLaws.{look_begin, look_empty, look_over, look_shorter, look_next}
+use Rattle.editor_walk.proofs.look.look.Goals as goal
+
+pub returns-then-path-eq0 : goal.returns-then-path-eq0
+returns-then-path-eq0 c =
+    let a = c.args in
+    look_empty a.path.now (path_of a.plens.now a.paths.now a.slot) (view_of 20 a.ed a.plens.now a.paths.now a.tlens.now a.trees.now) c.if-path-eq0.true
+
+pub loop-r-init : goal.loop-r-init
+loop-r-init c =
+    let a = c.args in
+    look_begin a.ed a.plens.now a.paths.now a.tlens.now a.trees.now a.full.now a.path.now a.slot c.requires.2 c.requires.3 c.if-path-eq0.false
+
+pub overflow_sub-end : goal.overflow_sub-end
+overflow_sub-end c = omega (arith, front_long c.loop-r.invariant.front)
+
+pub overflow_add-end : goal.overflow_add-end
+overflow_add-end c = omega (arith, front_long c.loop-r.invariant.front, piece_short c.loop-r.p.now c.component_len-k.result c.component_len-k.ensures)
+
+pub tree_in-tree-requires : goal.tree_in-tree-requires
+tree_in-tree-requires c = (c.requires.0.trees_sound, omega (arith, c.requires.0.tlens_64, c.loop-r.invariant.used.low))
+
+pub look_in-requires : goal.look_in-requires
+look_in-requires c =
+    let a = c.args in
+    let run = c.tree_in-tree.ensures in
+    let low = c.loop-r.invariant.used.low in (
+      c.requires.0.paths_sound,
+      c.requires.0.plens_64,
+      subst (Run 20) (sym run) (searched_run 20 a.ed a.plens.now a.paths.now a.tlens.now a.trees.now c.requires.0 c.loop-r.at low),
+      ap (λ t. well_formed 20 t) (ap (unpack 20) run ∙ tree_run 20 a.ed a.plens.now a.paths.now a.tlens.now a.trees.now c.requires.0 c.loop-r.at low) ∙ c.requires.0.well c.loop-r.at low,
+      ap (has 47) c.front-name.ensures ∙ piece_plain c.loop-r.p.now c.component_len-k.result c.component_len-k.ensures,
+    )
+
+pub returns-in-Over : goal.returns-in-Over
+returns-in-Over c = look_over c.loop-r.invariant c.requires.0 c.requires.1 c.component_len-k.ensures refl c.tree_in-tree.ensures refl c.front-below.ensures c.front-name.ensures c.look_in.ensures c.in-Over.is
+
+pub loop-r-smaller : goal.loop-r-smaller
+loop-r-smaller c =
+    let d = look_shorter c.loop-r.invariant c.requires.0 c.requires.1 c.component_len-k.ensures refl c.tree_in-tree.ensures refl c.front-below.ensures c.front-name.ensures c.look_in.ensures c.in-In.is in
+    omega (arith, d, ap length c.tail-rest.ensures, length-drop (c.component_len-k.result + 1) c.loop-r.p.now)
+
+pub loop-r-preserved : goal.loop-r-preserved
+loop-r-preserved c = look_next c.loop-r.invariant c.requires.0 c.requires.1 c.component_len-k.ensures refl c.tree_in-tree.ensures refl c.front-below.ensures c.front-name.ensures c.look_in.ensures c.in-In.is c.tail-rest.ensures
