@@ -12,7 +12,7 @@ use editor_terms::id::Id;
 use store_slots::Record;
 
 // What an answer gave, the editor after it, and what reading the next request gave.
-#[derive(Clone, Copy)]
+#[derive(Drop)]
 pub struct AnsweredAndRead {
     pub code: Code,
     pub ed: Record,
