@@ -13,7 +13,6 @@ use Rattle.model.specs.Raw.{read_tree}
 use Rattle.model.specs.Editor.{fits}
 use Rattle.model.specs.Editor.{Editor as Model}
 use Rattle.model.specs.Formats.{sha1}
-use Rattle.model.specs.Walk as walks
 use Rattle.model.specs.Calls.{Answer, refuse_if, rooted, root_only}
 use Rattle.model.specs.Order.{All}
 use Rattle.editor.specs.Lent.{Lent, Long, Good, viewed, Still, Does}

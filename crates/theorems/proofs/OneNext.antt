@@ -17,7 +17,7 @@ use Rattle.editor.specs.declared.cursor.Cursor.{Cursor}
 use Rattle.editor_write.specs.Requests.{Requests}
 use Rattle.editor_write.proofs.SameAnswers.{Same, same_request}
 use Rattle.theorems.specs.Public.{call, Proceeds, answer_and_request}
-use Rattle.theorems.specs.Runs.{Reads, Asks, Goes, Nexts}
+use Rattle.theorems.specs.Runs.{Reads, Asks, Nexts}
 use Rattle.theorems.proofs.Accepted.{accepted}
 use Rattle.theorems.proofs.OneAnswer.{One, one_answer, spare_unread}
 use Rattle.theorems.proofs.OneRequest.{spare_unread_request}
