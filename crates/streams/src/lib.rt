@@ -18,7 +18,7 @@ pub fn read_full<R: Read>(reader: &mut R, buf: &mut [u8]) -> io::Result<usize>
     while held < buf.len() {
         let n = reader.read(&mut buf[held..])?;
         if n == 0 {
-            break;
+            return Ok(held);
         }
         held += n;
     }
