@@ -2,9 +2,10 @@
 // nothing more after a write that failed; in both cases it ends with status 1 and a line on standard error, which is empty otherwise.
 #![tactic(auto)]
 
+mod answer;
 mod input;
 
-use lines::text::Put;
+use answer::Ended;
 use std::process::ExitCode;
 
 // Says on standard error what went wrong, as far as that can be written.
@@ -14,16 +15,9 @@ fn failed(rt: &impl Eprint, message: &str) -> ExitCode {
 }
 
 fn main(rt: HostRuntime) -> ExitCode {
-    let mut space = [0u8; 65537];
-    let got = input::read_input(&mut rt.stdin(), &mut space);
-    if got.failed {
-        return failed(&rt, "small: standard input cannot be read");
+    match answer::answer(&mut rt.stdin(), &mut rt.stdout()) {
+        Ended::Done => ExitCode::SUCCESS,
+        Ended::Unread => failed(&rt, "small: standard input cannot be read"),
+        Ended::Unwritten => failed(&rt, "small: standard output cannot be written"),
     }
-    let mut out = [0u8; 303104];
-    if let Put::At(n) = small_run::run::run(&space[..got.len], &mut out) {
-        if rt.write_all(names::part::front(&out, n)).is_err() {
-            return failed(&rt, "small: standard output cannot be written");
-        }
-    }
-    ExitCode::SUCCESS
 }
