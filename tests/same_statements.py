@@ -16,16 +16,16 @@ TABLE = os.path.join(ROOT, "crates/theorems/specs/Public.antt")
 
 # the clause of each function
 CLAUSES = {
-    "editor/root.rt set_root": "set-root", "editor/edit.rt edit": "edit", "editor/cursor.rt cursor_at": "cursor-at",
-    "editor_write/begin.rt begin": "begin", "editor_write/begin.rt begin_at": "begin-at", "editor_write/answer.rt answer": "answer",
-    "editor_write/next.rt answer_and_request": "answer-and-request", "editor_write/fail.rt fail": "fail",
+    "editor/root.rt set_root": "set_root_lem", "editor/edit.rt edit": "edit", "editor/cursor.rt cursor_at": "cursor_at_lem",
+    "editor_write/begin.rt begin": "begin", "editor_write/begin.rt begin_at": "begin_at_lem", "editor_write/answer.rt answer": "answer",
+    "editor_write/next.rt answer_and_request": "answer_and_request", "editor_write/fail.rt fail": "fail",
 }
 
 
 def plain(term):
     """a contract's term with the names of the table's clauses"""
-    term = term.replace("(tableOf (now (ids .entry)) (now (ends .entry)) (now (raws .entry)))", "T")
-    term = re.sub(r"\(now \((\w+) \.entry\)\)", r"\1", term).replace("(asEdit edit)", "(asEdit e)")
+    term = term.replace("(table_of ids.now ends.now raws.now)", "T")
+    term = re.sub(r"\b(\w+)\.now\b", r"\1", term).replace("(as_edit edit)", "(as_edit e)")
     return re.sub(r"\b(model|walk|write)\.", "", term)
 
 

@@ -3,7 +3,7 @@ use std::path::PathBuf;
 
 fn main() {
     println!("cargo:rerun-if-env-changed=TREE_EDITOR_LIB");
-    let built = PathBuf::from(std::env::var("CARGO_MANIFEST_DIR").unwrap()).join("../../target/staticlib/libadapter.a");
+    let built = PathBuf::from(std::env::var("CARGO_MANIFEST_DIR").unwrap()).join("../../crates/adapter/out/libadapter.a");
     let archive = std::env::var("TREE_EDITOR_LIB").map_or(built, PathBuf::from);
     println!("cargo:rerun-if-changed={}", archive.display());
     let archive = archive.canonicalize().unwrap_or_else(|e| panic!("{}: {e}; run tools/library.sh", archive.display()));

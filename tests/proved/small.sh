@@ -1,6 +1,6 @@
 #!/usr/bin/env bash
 # The proved small program against the oracle's recorded answers, whole and in transfers of several sizes, and Git's judgement
-# of the trees that it writes for the sample. Runs after the proofs, which leave the program in target/bin.
+# of the trees that it writes for the sample. Runs after `rt ci`, which leaves the program in crates/small/out.
 set -euo pipefail
 cd "$(dirname "$0")/../.."
 small='tools/run.sh small'

@@ -1,6 +1,6 @@
 #!/usr/bin/env bash
-# The small program against the oracle: 20,045 inputs, and a part of them in transfers of several sizes. Needs cargo, and the
-# program in target/bin (`rt check small`). Some minutes of one core.
+# The small program against the oracle: 20,045 inputs, and a part of them in transfers of several sizes. Needs cargo.
+# Some minutes of one core.
 #   compare_small.sh [SMALL]
 set -euo pipefail
 cd "$(dirname "$0")/../.."

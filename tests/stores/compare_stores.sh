@@ -6,8 +6,5 @@ set -euo pipefail
 cd "$(dirname "$0")/../.."
 count=${1:-110000} seed=${2:-1}
 shift $(($# < 2 ? $# : 2))
-if [ $# -eq 0 ]; then
-  rt check test_stores
-  set -- target/bin/test_stores
-fi
+[ $# -gt 0 ] || set -- tools/run.sh test_stores
 python3 tests/stores/stores.py compare --seed "$seed" --count "$count" -- "$@"

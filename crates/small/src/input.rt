@@ -1,7 +1,9 @@
 // Standard input, read to its end.
-ghost use Rattle.io.specs.Counts.{IsPrefixLen};
+ghost use Rattle.std.specs.Prelude.{◌≡◌, ◌<◌, false, length, take};
+ghost use Rattle.std.specs.Counts.{IsPrefixLen};
+ghost use Rattle.std.specs.Io.KnownBytes.{Consumes, IsAtEnd};
 
-use libc::STDIN_FILENO;
+use std::io::Read;
 
 // How many bytes were read, and whether a read failed before the input ended or the buffer was full.
 #[derive(Clone, Copy)]
@@ -11,29 +13,16 @@ pub struct Got {
 }
 
 // Reads until the buffer is full, the input ends or a read fails, and tells the last two apart.
-pub fn read_input(buf: &mut [u8]) -> Got
-    ensures { IsPrefixLen result.len buf.new }
+pub fn read_input<R: Read>(reader: &mut R, buf: &mut [u8]) -> Got
+    ensures bound { IsPrefixLen result.len buf.new }
+    ensures bytes { result.failed ≡ false → Consumes (R.remaining reader.old) (R.remaining reader.new) (take result.len buf.new) }
+    ensures end { result.failed ≡ false → result.len < length buf.new → IsAtEnd (R.remaining reader.new) }
 {
-    let mut held = 0;
-    while held < buf.len() {
-        let got = libc::read(STDIN_FILENO, &mut buf[held..]);
-        if got < 0 {
-            return Got {
-                len: held,
-                failed: true,
-            };
-        }
-        let n = io::count(got, &buf[held..]);
-        if n == 0 {
-            return Got {
-                len: held,
-                failed: false,
-            };
-        }
-        held += n;
-    }
-    Got {
-        len: held,
-        failed: false,
+    match streams::read_full(reader, buf) {
+        Ok(len) => Got { len, failed: false },
+        Err(_) => Got {
+            len: 0,
+            failed: true,
+        },
     }
 }

@@ -1,25 +1,23 @@
-// The small program: edits from records on standard input, and the trees of a write on standard output. A Rattle program ends with status 0 whatever happens,
-// so a caller goes by what is written: nothing on standard output where a read failed, nothing more on it after a write that failed, and in both cases a line
-// on standard error, which is empty otherwise.
+// The small program: edits from records on standard input, and the trees of a write on standard output. Where a read failed, nothing is on standard output, and
+// nothing more after a write that failed; in both cases it ends with status 1 and a line on standard error, which is empty otherwise.
 #![tactic(auto)]
 
+mod answer;
 mod input;
 
-use libc::{STDERR_FILENO, STDOUT_FILENO};
-use lines::text::Put;
+use answer::Ended;
+use std::process::ExitCode;
 
-fn main() {
-    let mut space = [0u8; 65537];
-    let got = input::read_input(&mut space);
-    if got.failed {
-        io::write_all(STDERR_FILENO, b"small: standard input cannot be read\n");
-        return;
-    }
-    let mut out = [0u8; 303104];
-    if let Put::At(n) = small_run::run::run(&space[..got.len], &mut out) {
-        if io::write_all(STDOUT_FILENO, names::part::front(&out, n)) {
-            return;
-        }
-        io::write_all(STDERR_FILENO, b"small: standard output cannot be written\n");
+// Says on standard error what went wrong, as far as that can be written.
+fn failed(rt: &impl Eprint, message: &str) -> ExitCode {
+    let _ = rt.eprintln(message);
+    ExitCode::FAILURE
+}
+
+fn main(rt: HostRuntime) -> ExitCode {
+    match answer::answer(&mut rt.stdin(), &mut rt.stdout()) {
+        Ended::Done => ExitCode::SUCCESS,
+        Ended::Unread => failed(&rt, "small: standard input cannot be read"),
+        Ended::Unwritten => failed(&rt, "small: standard output cannot be written"),
     }
 }

@@ -1,6 +1,6 @@
 // Writing a tree anew from what is read of it.
 ghost use Rattle.std.specs.Prelude.{◌≤◌, length};
-ghost use Rattle.io.specs.Counts.{IsPrefixLen};
+ghost use Rattle.std.specs.Counts.{IsPrefixLen};
 
 use names::mode::EntryKind;
 use names::raw::EntryRead;

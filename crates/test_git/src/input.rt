@@ -1,6 +1,9 @@
 // The standard input, line by line, through a buffer that has to hold a whole line.
-ghost use Rattle.std.specs.Prelude.{◌≤◌, length};
-ghost use Rattle.io.specs.Counts.{IsPrefixLen};
+ghost use Rattle.std.specs.Prelude.{◌≤◌, IfOk, length};
+ghost use Rattle.std.specs.Counts.{IsPrefixLen};
+
+use std::io;
+use std::io::Read;
 
 // Whether there is more to do, and how many bytes the front of the buffer then holds.
 #[derive(Clone, Copy)]
@@ -10,12 +13,12 @@ struct Step {
 }
 
 // Reads on behind the bytes that the buffer holds, and gives how many it holds then.
-fn fill(buf: &mut [u8], held: usize) -> usize
+fn fill<R: Read>(reader: &mut R, buf: &mut [u8], held: usize) -> io::Result<usize>
     requires { held ≤ length buf.old }
-    ensures { IsPrefixLen result buf.new }
+    ensures { IfOk result (λ n. IsPrefixLen n buf.new) }
 {
-    let n = io::read_full(0, &mut buf[held..]);
-    held + n
+    let n = streams::read_full(reader, &mut buf[held..])?;
+    Ok(held + n)
 }
 
 // Moves the bytes between two places to the front, and gives how many they are.
@@ -41,40 +44,38 @@ fn has_line(s: &[u8], from: usize) -> bool {
 
 // Reads on and replays the whole lines. Where the input has ended or a line breaks the form, there
 // is no more to do, and what is left over is a bad line.
-fn turn(buf: &mut [u8], held: usize) -> Step
+fn turn<R: Read>(rt: &impl Print, reader: &mut R, buf: &mut [u8], held: usize) -> io::Result<Step>
     requires { held ≤ length buf.old }
-    ensures { result.held ≤ length buf.new }
+    ensures { IfOk result (λ step. step.held ≤ length buf.new) }
 {
-    let n = fill(buf, held);
-    let used = crate::cases::replay(&buf[..n]);
+    let n = fill(reader, buf, held)?;
+    let used = crate::cases::replay(rt, &buf[..n])?;
     if n == held || has_line(&buf[..n], used) {
         if used < n {
-            crate::cases::print(b"bad line\n");
+            crate::cases::print(rt, b"bad line\n")?;
         }
-        return Step {
+        return Ok(Step {
             more: false,
             held: 0,
-        };
+        });
     }
     let rest = keep(buf, used, n);
-    Step {
+    Ok(Step {
         more: true,
         held: rest,
-    }
+    })
 }
 
-// Replays the standard input. Nothing says that it ends, so the turns are counted, from a number
-// that no run uses up.
-pub fn run(buf: &mut [u8]) {
+// Replays what a reader gives. Nothing says that it ends, so the turns are counted, to a number
+// that no run reaches.
+pub fn run<R: Read>(rt: &impl Print, reader: &mut R, buf: &mut [u8]) -> io::Result<()> {
     let mut held = 0;
-    let mut turns = u64::MAX;
-    while 0 < turns {
-        let t = turn(buf, held);
-        if t.more {
-            held = t.held;
-            turns -= 1;
-        } else {
-            return;
+    for _ in 0..u64::MAX {
+        let step = turn(rt, reader, buf, held)?;
+        if !step.more {
+            break;
         }
+        held = step.held;
     }
+    Ok(())
 }

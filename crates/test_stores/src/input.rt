@@ -1,26 +1,28 @@
-// Stores from the standard input, one after the other.
+// Stores from the standard input, one after the other. A read or a write that fails gives its error to the caller.
 ghost use Rattle.std.specs.Prelude.{◌+◌, ◌≤◌, ◌≡◌, length};
 
-use libc::{STDIN_FILENO, STDOUT_FILENO};
+use std::io;
+use std::io::Read;
 use store_slots::Record;
 
 // Reads so many bytes to the front of a slice. False where the input has fewer, or the slice no room for them.
-fn read_bytes(out: &mut [u8], n: usize) -> bool {
+fn read_bytes<R: Read>(reader: &mut R, out: &mut [u8], n: usize) -> io::Result<bool> {
     if out.len() < n {
-        return false;
+        return Ok(false);
     }
-    io::read_full(STDIN_FILENO, &mut out[..n]) == n
+    let held = streams::read_full(reader, &mut out[..n])?;
+    Ok(held == n)
 }
 
 // Reads so many words to the front of a slice. False where the input has fewer, or there is no room for them.
-fn read_words(out: &mut [u64], n: usize) -> bool {
+fn read_words<R: Read>(reader: &mut R, out: &mut [u64], n: usize) -> io::Result<bool> {
     let mut buf = [0u8; 1024];
     if out.len() < n || 128 < n {
-        return false;
+        return Ok(false);
     }
-    let whole = read_bytes(&mut buf, 8 * n);
+    let whole = read_bytes(reader, &mut buf, 8 * n)?;
     crate::words::unpack(&buf, out);
-    whole
+    Ok(whole)
 }
 
 // One of the five lengths at the head's front.
@@ -48,11 +50,11 @@ fn record_of(head: &[u8]) -> Record
     }
 }
 
-fn print(good: bool) {
+fn print(rt: &impl Print, good: bool) -> io::Result<()> {
     if good {
-        io::write_all(STDOUT_FILENO, b"1\n");
+        rt.write_all(b"1\n")
     } else {
-        io::write_all(STDOUT_FILENO, b"0\n");
+        rt.write_all(b"0\n")
     }
 }
 
@@ -78,57 +80,61 @@ fn is_good(
 }
 
 // Reads the five slices of a store whose head is read. False where the input ends within them or one has no room.
-fn read_slices(
+fn read_slices<R: Read>(
+    reader: &mut R,
     head: &[u8],
     plens: &mut [u64],
     paths: &mut [u8],
     tlens: &mut [u64],
     trees: &mut [u8],
     order: &mut [u64],
-) -> bool
+) -> io::Result<bool>
     requires { length head.now ≡ 100 }
 {
-    let a = read_words(plens, length_at(head, 0));
-    let b = read_bytes(paths, length_at(head, 4));
-    let c = read_words(tlens, length_at(head, 8));
-    let d = read_bytes(trees, length_at(head, 12));
-    let e = read_words(order, length_at(head, 16));
-    a & b & c & d & e
+    let a = read_words(reader, plens, length_at(head, 0))?;
+    let b = read_bytes(reader, paths, length_at(head, 4))?;
+    let c = read_words(reader, tlens, length_at(head, 8))?;
+    let d = read_bytes(reader, trees, length_at(head, 12))?;
+    let e = read_words(reader, order, length_at(head, 16))?;
+    Ok(a & b & c & d & e)
 }
 
 // Reads a store and says whether it holds an editor. False, with nothing printed, where there is none.
-fn turn(
+fn turn<R: Read>(
+    rt: &impl Print,
+    reader: &mut R,
     plens: &mut [u64],
     paths: &mut [u8],
     tlens: &mut [u64],
     trees: &mut [u8],
     order: &mut [u64],
-) -> bool {
+) -> io::Result<bool> {
     let mut head = [0u8; 100];
-    if io::read_full(STDIN_FILENO, &mut head) != 100 {
-        return false;
+    if streams::read_full(reader, &mut head)? != 100 {
+        return Ok(false);
     }
-    if read_slices(&head, plens, paths, tlens, trees, order) {
-        print(is_good(&head, plens, paths, tlens, trees, order));
-        return true;
+    if read_slices(reader, &head, plens, paths, tlens, trees, order)? {
+        print(rt, is_good(&head, plens, paths, tlens, trees, order))?;
+        return Ok(true);
     }
-    false
+    Ok(false)
 }
 
-// Says of each store of the standard input whether it holds an editor. Nothing says that the input ends, so the stores are
-// counted, from a number that no run uses up.
-pub fn run(
+// Says of each store that a reader gives whether it holds an editor. Nothing says that the input ends, so the stores are
+// counted, to a number that no run reaches.
+pub fn run<R: Read>(
+    rt: &impl Print,
+    reader: &mut R,
     plens: &mut [u64],
     paths: &mut [u8],
     tlens: &mut [u64],
     trees: &mut [u8],
     order: &mut [u64],
-) {
-    let mut turns = u64::MAX;
-    while 0 < turns {
-        if !turn(plens, paths, tlens, trees, order) {
-            return;
+) -> io::Result<()> {
+    for _ in 0..u64::MAX {
+        if !turn(rt, reader, plens, paths, tlens, trees, order)? {
+            break;
         }
-        turns -= 1;
     }
+    Ok(())
 }
