@@ -1,3 +1,2 @@
--- The laws that the proofs of several functions share, and that every answer is decided.
-pub mod ReadLaws
+-- Every answer is decided.
 pub mod SameAnswers
