@@ -16,6 +16,8 @@ WORD = r"[^\s(){}.;,@\"«»\[\]\\:]+"
 TOKEN = re.compile(r"--[^\n]*|\"(?:[^\"\\]|\\.)*\"|" + WORD)
 DECL = re.compile(r"^( *)((?:unfoldable |abbrev |pattern )*(?:pub )?)((?:" + WORD + r" +)*" + WORD + r")( *(?:\{[^{}]*\} *)?): ", re.M)
 HUMP = re.compile(r"(?<=[a-z0-9])(?=[A-Z])")
+# names that would meet another in the same file, and are no lemmas
+OTHER = {"cursor-at": "cursor_at_call", "from-cursor": "from_a_cursor", "begin-at": "begin_at", "set-root": "set_root"}
 HEADS = ("let", "in", "use", "module", "λ", "mod", "elim", "record", "infixl", "infixr", "infix", "data", "rw", "ruleset")
 
 
@@ -27,7 +29,9 @@ def files(root):
 
 
 def by_hand(p):
-    return os.path.basename(p) in ("Proof.antt", "Answers.antt", "Invariants.antt")
+    """Whether a file is a function's own proof, and not one of definitions or lemmas."""
+    below = p.split(os.sep + "proofs" + os.sep)
+    return len(below) == 2 and os.sep in below[1] and os.path.basename(p) in ("Proof.antt", "Answers.antt", "Invariants.antt")
 
 
 def declared(root):
@@ -74,7 +78,7 @@ def turned(own):
             continue
         s = snake(n)
         if s in humped and humped[s] != n:
-            lemmas[n] = s + "_lem"
+            lemmas[n] = OTHER.get(n, s + "_lem")
         elif s != n and s in own and s not in humped:
             lemmas[n] = s + "_lem"
         elif s != n:

@@ -1,2 +1,4 @@
--- Every answer is decided.
+-- The laws that the proofs of several functions share, and that every answer is decided.
+pub mod ReadLaws
+pub mod Said
 pub mod SameAnswers

@@ -14,7 +14,7 @@ use Rattle.model.specs.Editor.{Held, Cache}
 use Rattle.model.specs.Write.{Shown, shown, short, unopened, requested, show}
 use Rattle.names.specs.Splice.{splice}
 use Rattle.store_slots.specs.View.{write_of}
-use Rattle.editor_terms.specs.Answers.{codeNumber}
+use Rattle.editor_terms.specs.Answers.{code_number}
 use Rattle.editor_terms.specs.declared.code.Code.{Code}
 use Rattle.editor_terms.specs.declared.code.Code.TheVariants.{Done, EmptyComponent, TreeNotFound, TreeDamaged, NotALeaf, NoRoom, PathRefused, BadTable, CursorStale, WriteOpen, NoWriteOpen, OutputShort, BadRoot, StoreDamaged}
 use Rattle.editor.specs.Lent.{Lent, Good, viewed, Still}
@@ -43,7 +43,7 @@ needed_is BadRoot n out = refl
 needed_is StoreDamaged n out = refl
 
 -- the answer 0 shows the front of the output
-done_is : (code : Code) (n : ℕ) (out : Bytes) → codeNumber code ≡ 0 → shown_as code n out ≡ shown (take n out)
+done_is : (code : Code) (n : ℕ) (out : Bytes) → code_number code ≡ 0 → shown_as code n out ≡ shown (take n out)
 done_is Done n out e = refl
 done_is EmptyComponent n out e = absurd (omega (arith, e))
 done_is TreeNotFound n out e = absurd (omega (arith, e))
@@ -94,7 +94,7 @@ short_place s g (shown b) = go (eqb s.ed.«open» 0) refl
 
 -- ---- what is told
 
-module _ (code : Code) (len : ℕ) (place : Cursor) (path : Bytes) (lens : List ℕ) (n : ℕ) (is : n ≡ codeNumber code) where
+module _ (code : Code) (len : ℕ) (place : Cursor) (path : Bytes) (lens : List ℕ) (n : ℕ) (is : n ≡ code_number code) where
   pub told_lacks : n ≡ 11 → (k : ℕ) → k ≡ needed_by code → Told code len place path lens n path (set lens 0 k)
   told_lacks e k h =
       record {
@@ -131,7 +131,7 @@ module _ (s : Lent) (code : Code) (len : ℕ) (place : Cursor) (out out' path pa
   same e h = ap (λ (o : Bytes). slices o path' lens') e ∙ ap (λ (p : Bytes). slices out p lens') h.0 ∙ ap (λ (l : List ℕ). slices out path l) h.1
 
   -- what is shown decides the slices
-  by_shown : (x : Shown) (p : Bytes) → shown_as code len out' ≡ x → drop len out' ≡ drop len out → (Still (codeNumber code) → out' ≡ out) → codeNumber code ≡ shown_number x → len ≡ shown_length x → prefix_of place ≡ p → after ≡ read_to x p before
+  by_shown : (x : Shown) (p : Bytes) → shown_as code len out' ≡ x → drop len out' ≡ drop len out → (Still (code_number code) → out' ≡ out) → code_number code ≡ shown_number x → len ≡ shown_length x → prefix_of place ≡ p → after ≡ read_to x p before
   by_shown (shown b) p is rest kept number long at =
       let d = t.done number in
       let f : take len out' ≡ b = ap front (sym (done_is code len out' number) ∙ is) in
@@ -153,7 +153,7 @@ module _ (s : Lent) (code : Code) (len : ℕ) (place : Cursor) (out out' path pa
   reads r =
       record {
         refused = λ z.
-            let c : codeNumber code ≡ 13 = sym t.number ∙ z in
+            let c : code_number code ≡ 13 = sym t.number ∙ z in
             ((r.refused c).0, same (r.refused c).1 (t.other (λ e. omega (arith, e, c)) (λ e. omega (arith, e, c))));
         done = λ z.
             let d = r.done (λ c. z (t.number ∙ c)) in

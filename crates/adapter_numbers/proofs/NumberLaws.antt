@@ -15,7 +15,7 @@ use Rattle.model.specs.Formats.{sha1}
 use Rattle.model.specs.Walk.{upsert}
 use Rattle.model.specs.Calls.{Answer, edited}
 use Rattle.model.specs.Write.{answered}
-use Rattle.names.specs.Answers.{asMode, modeRead}
+use Rattle.names.specs.Answers.{as_mode, mode_read}
 use Rattle.names.specs.Bits.{mode_of_bits}
 use Rattle.names.specs.declared.mode.EntryKind.{EntryKind}
 use Rattle.names.specs.declared.mode.ModeRead.{ModeRead}
@@ -46,13 +46,13 @@ module _ (T : Table) (bits : ℕ) (id prefix path : Bytes) where
   by_mode s n q o l e h =
       subst (λ (b : Bool). Numbers (cond b (put_as T id prefix path (mode_of_bits bits)) none) s n q) (sym (eq-eqb (length id) 20 l)) (subst (λ (p : Option Mode). Numbers (put_as T id prefix path p) s n q) e h)
 
-  pub bad_mode_lem : (s : Lent) (r : ModeRead) → length id ≡ 20 → modeRead r ≡ mode_of_bits bits → r ≡ Refused → Numbers (put_by T bits id prefix path) s 255 s
-  bad_mode_lem s r l e k = by_mode s 255 s none l (sym (ap modeRead k) ∙ e) (refl, refl)
+  pub bad_mode_lem : (s : Lent) (r : ModeRead) → length id ≡ 20 → mode_read r ≡ mode_of_bits bits → r ≡ Refused → Numbers (put_by T bits id prefix path) s 255 s
+  bad_mode_lem s r l e k = by_mode s 255 s none l (sym (ap mode_read k) ∙ e) (refl, refl)
 
-  pub good_put : (s : Lent) (n : ℕ) (q : Lent) (r : ModeRead) (kind : EntryKind) (i : Id) → length id ≡ 20 → modeRead r ≡ mode_of_bits bits → r ≡ Kind kind → id_bytes i ≡ take 20 (drop 0 id)
-      → Does (edited sha1 T (upsert (asMode kind) (id_bytes i)) false prefix path) s n q → Numbers (put_by T bits id prefix path) s n q
+  pub good_put : (s : Lent) (n : ℕ) (q : Lent) (r : ModeRead) (kind : EntryKind) (i : Id) → length id ≡ 20 → mode_read r ≡ mode_of_bits bits → r ≡ Kind kind → id_bytes i ≡ take 20 (drop 0 id)
+      → Does (edited sha1 T (upsert (as_mode kind) (id_bytes i)) false prefix path) s n q → Numbers (put_by T bits id prefix path) s n q
   good_put s n q r kind i l e k w d =
-      by_mode s n q (some (asMode kind)) l (sym (ap modeRead k) ∙ e) (subst (λ (x : Bytes). Does (edited sha1 T (upsert (asMode kind) x) false prefix path) s n q) (whole_id i id l w) d)
+      by_mode s n q (some (as_mode kind)) l (sym (ap mode_read k) ∙ e) (subst (λ (x : Bytes). Does (edited sha1 T (upsert (as_mode kind) x) false prefix path) s n q) (whole_id i id l w) d)
 
 module _ (id : Bytes) where
   pub bad_answer : (s : Lent) → (length id ≡ 20 → ⊥) → Numbers (answer_by id) s 255 s

@@ -4,7 +4,7 @@ use Rattle.model.specs.Bytes.{Bytes}
 use Rattle.model.specs.Formats.{sha1}
 use Rattle.model.specs.Write.{Shown, shown, short, unopened, requested, show, answered}
 use Rattle.names.specs.Splice.{splice}
-use Rattle.editor_terms.specs.Answers.{codeNumber}
+use Rattle.editor_terms.specs.Answers.{code_number}
 use Rattle.editor_terms.specs.declared.code.Code.{Code}
 use Rattle.editor.specs.Lent.{Lent, Good, viewed, Does}
 use Rattle.editor.specs.Looks.{prefix_of}
@@ -72,7 +72,7 @@ needed_by code = short_by (shown_as code 0 [])
 
 -- what is told of an answer, of the length of the raw tree and of its place
 pub record Told (code : Code) (len : ℕ) (place : Cursor) (path : Bytes) (lens : List ℕ) (n : ℕ) (path' : Bytes) (lens' : List ℕ) : Type 0 where
-  pub number : n ≡ codeNumber code
-  pub lacks : codeNumber code ≡ 11 → (path' ≡ path) × (lens' ≡ set lens 0 (needed_by code))
-  pub done : codeNumber code ≡ 0 → (path' ≡ splice path 0 (prefix_of place)) × (lens' ≡ set (set lens 0 len) 1 (length (prefix_of place)))
-  pub other : (codeNumber code ≡ 11 → ⊥) → (codeNumber code ≡ 0 → ⊥) → (path' ≡ path) × (lens' ≡ lens)
+  pub number : n ≡ code_number code
+  pub lacks : code_number code ≡ 11 → (path' ≡ path) × (lens' ≡ set lens 0 (needed_by code))
+  pub done : code_number code ≡ 0 → (path' ≡ splice path 0 (prefix_of place)) × (lens' ≡ set (set lens 0 len) 1 (length (prefix_of place)))
+  pub other : (code_number code ≡ 11 → ⊥) → (code_number code ≡ 0 → ⊥) → (path' ≡ path) × (lens' ≡ lens)

@@ -37,7 +37,7 @@ use Rattle.store_check.specs.Decides.{Decides}
 use Rattle.store_check.specs.Stored.{Stored}
 use Rattle.store_check.proofs.Deciding as deciding
 use Rattle.store_check.proofs.StoredLaws.{sha1_width, sha1_room}
-use Rattle.editor_terms.specs.Answers.{codeNumber}
+use Rattle.editor_terms.specs.Answers.{code_number}
 use Rattle.editor_terms.specs.Edits.{as_edit}
 use Rattle.editor_terms.specs.declared.code.Code.{Code}
 use Rattle.editor_terms.specs.declared.edit.Edit.{Edit as Asked}
@@ -118,16 +118,16 @@ module _ (T : Table) (e : Edit) (opening : Bool) (prefix path : Bytes) (r : Reco
   abbrev Told : Code → Type 0
   Told k = EditedAs r plens paths tlens trees order (edited sha1 T e opening prefix path E) (record { code = k; ed = r }) plens paths tlens trees
 
-  refuses : (k : Code) → Still (codeNumber k) → codeNumber k ≤ 12 → answered (codeNumber k) E ≡ edited sha1 T e opening prefix path E → Told k
+  refuses : (k : Code) → Still (code_number k) → code_number k ≤ 12 → answered (code_number k) E ≡ edited sha1 T e opening prefix path E → Told k
   refuses k h l m = record { made = m; same = λ z. (refl, refl, refl, refl, refl); stand = λ z. absurd (z h); usual = λ z. omega (arith, l, z) }
 
   wide : {b : Bool} → good_table 20 T ≡ b → good_table sha1.width T ≡ b
   wide t = ap (λ (w : ℕ). good_table w T) sha1_width ∙ t
 
-  pub is_open : (k : Code) → codeNumber k ≡ 9 → (r.«open» ≡ 0 → ⊥) → Told k
+  pub is_open : (k : Code) → code_number k ≡ 9 → (r.«open» ≡ 0 → ⊥) → Told k
   is_open k n o = refuses k (omega (arith, n)) (omega (arith, n)) (ap (λ (z : ℕ). answered z E) n ∙ edited_open T e opening prefix path E (opened r plens paths tlens trees order o))
 
-  pub bad_table : (k : Code) → codeNumber k ≡ 7 → r.«open» ≡ 0 → good_table 20 T ≡ false → Told k
+  pub bad_table : (k : Code) → code_number k ≡ 7 → r.«open» ≡ 0 → good_table 20 T ≡ false → Told k
   bad_table k n o t = refuses k (omega (arith, n)) (omega (arith, n)) (ap (λ (z : ℕ). answered z E) n ∙ edited_table T e opening prefix path E (shut r plens paths tlens trees order o) (wide t))
 
   module _ (x : Ready) (L : Laid 20 r plens paths tlens trees) (o : r.«open» ≡ 0) (h : r.hidden ≡ r.free) (t : good_table 20 T ≡ true)
@@ -135,12 +135,12 @@ module _ (T : Table) (e : Edit) (opening : Bool) (prefix path : Bytes) (r : Reco
     here : ReadyIs 20 (digits 64 r.hidden) (cut plens paths) (cut tlens trees) prefix path x
     here = ready 20 (cut tlens trees) (length_cut tlens trees ∙ L.tlens_64)
 
-    pub is_stale : (k : Code) → codeNumber k ≡ 8 → x ≡ Stale → Told k
+    pub is_stale : (k : Code) → code_number k ≡ 8 → x ≡ Stale → Told k
     is_stale k n f =
         let z : ReadyIs 20 (digits 64 r.hidden) (cut plens paths) (cut tlens trees) prefix path Stale = subst (λ (y : Ready). ReadyIs 20 (digits 64 r.hidden) (cut plens paths) (cut tlens trees) prefix path y) f here in
         refuses k (omega (arith, n)) (omega (arith, n)) (ap (λ (z : ℕ). answered z E) n ∙ edited_stale T e opening prefix path E (shut r plens paths tlens trees order o) (wide t) (ap is_some z.0))
 
-    pub is_refused : (k : Code) → codeNumber k ≡ 6 → x ≡ Refused → Told k
+    pub is_refused : (k : Code) → code_number k ≡ 6 → x ≡ Refused → Told k
     is_refused k n f =
         let z : ReadyIs 20 (digits 64 r.hidden) (cut plens paths) (cut tlens trees) prefix path Refused = subst (λ (y : Ready). ReadyIs 20 (digits 64 r.hidden) (cut plens paths) (cut tlens trees) prefix path y) f here in
         refuses k (omega (arith, n)) (omega (arith, n)) (ap (λ (z : ℕ). answered z E) n ∙ edited_refused T e opening prefix path E (shut r plens paths tlens trees order o) (wide t) z.0 z.1)
@@ -172,8 +172,8 @@ module _ (T : Table) (e : Edit) (opening : Bool) (prefix path : Bytes) (r : Reco
       is_settled a plens' paths' tlens' trees' d =
           record {
             made =
-                ap (answered (codeNumber a.code)) (idle a.ed plens' paths' tlens' trees' order (d.stand.write.«open» ∙ o) d.stand.closed)
-                ∙ ap (answered (codeNumber a.code)) d.now
+                ap (answered (code_number a.code)) (idle a.ed plens' paths' tlens' trees' order (d.stand.write.«open» ∙ o) d.stand.closed)
+                ∙ ap (answered (code_number a.code)) d.now
                 ∙ ap (λ (n : ℕ). answered n m.editor) d.code
                 ∙ m_edited;
             same = λ z. d.same (omega (arith, z, d.code, m_low));
@@ -219,7 +219,7 @@ module _ (T : Table) (edit : Asked) (opening : Bool) (prefix path : Bytes) (r : 
   abbrev f : Model → Answered
   f = edited sha1 T (as_edit edit) opening prefix path
 
-  pub damaged : (k : Code) → codeNumber k ≡ 13 → (b : Bool) → Decides (Good S) b → b ≡ false → Does f S (codeNumber k) S
+  pub damaged : (k : Code) → code_number k ≡ 13 → (b : Bool) → Decides (Good S) b → b ≡ false → Does f S (code_number k) S
   damaged k n b d e = record { refused = λ z. (deciding.refused d e, refl); done = λ z. absurd (z n); kept = λ z. refl }
 
   module _ (g : Stored sha1 r plens paths tlens trees order) (a : Answer) (p q t u : List ℕ)
@@ -239,7 +239,7 @@ module _ (T : Table) (edit : Asked) (opening : Bool) (prefix path : Bytes) (r : 
     abbrev left : Lent
     left = lent a.ed P Q U Y order
 
-    same_all : Still (codeNumber a.code) → left ≡ S
+    same_all : Still (code_number a.code) → left ≡ S
     same_all h =
         let z = x.same h in
         ap (λ (y : Record). lent y P Q U Y order) z.0
@@ -256,8 +256,8 @@ module _ (T : Table) (edit : Asked) (opening : Bool) (prefix path : Bytes) (r : 
           ∙ ap (λ (y : List ℕ). editor_of 20 a.ed (take 64 P) (take 8192 Q) y u (take 64 order)) (sym (front_of_lem 64 tlens t lt))
           ∙ ap (λ (y : List ℕ). editor_of 20 a.ed (take 64 P) (take 8192 Q) (take 64 U) y (take 64 order)) (sym (front_of_lem 38912 trees u lu))
 
-      made_left : answered (codeNumber a.code) (viewed left) ≡ f (viewed S)
-      made_left = ap (answered (codeNumber a.code)) (sym view_left) ∙ x.made
+      made_left : answered (code_number a.code) (viewed left) ≡ f (viewed S)
+      made_left = ap (answered (code_number a.code)) (sym view_left) ∙ x.made
 
       valid_left : valid sha1 (viewed left) ≡ true
       valid_left =
@@ -293,20 +293,20 @@ module _ (T : Table) (edit : Asked) (opening : Bool) (prefix path : Bytes) (r : 
             };
           }
 
-      finish : Good left → Does f S (codeNumber a.code) left
+      finish : Good left → Does f S (code_number a.code) left
       finish k = record { refused = λ z. absurd (x.usual z); done = λ z. (g, made_left, k, behind_left); kept = same_all }
 
-    pub done : Does f S (codeNumber a.code) left
-    done = go (leb 5 (codeNumber a.code)) refl where
-      go : (b : Bool) → leb 5 (codeNumber a.code) ≡ b → Does f S (codeNumber a.code) left
+    pub done : Does f S (code_number a.code) left
+    done = go (leb 5 (code_number a.code)) refl where
+      go : (b : Bool) → leb 5 (code_number a.code) ≡ b → Does f S (code_number a.code) left
       go true e =
-          let h : Still (codeNumber a.code) = leb-true 5 (codeNumber a.code) e in
+          let h : Still (code_number a.code) = leb-true 5 (code_number a.code) e in
           let z = x.same h in
           finish (ap length z.1 ∙ length-take-le 64 plens g.plens_room) (ap length z.2 ∙ length-take-le 8192 paths g.paths_room)
           (ap length z.3 ∙ length-take-le 64 tlens g.tlens_room) (ap length z.4 ∙ length-take-le 38912 trees (trees_long r plens paths tlens trees order g))
           (subst Good (sym (same_all h)) g)
       go false e =
-          let n : codeNumber a.code < 5 = leb-false 5 (codeNumber a.code) e in
+          let n : code_number a.code < 5 = leb-false 5 (code_number a.code) e in
           let z : (r.«open» ≡ 0) × Standing r a.ed p q t u = x.stand (λ y. omega (arith, y, n)) in
           let l = z.1.laid in
           finish l.plens_64 l.paths_room l.tlens_64 l.trees_room (stood_left l.plens_64 l.paths_room l.tlens_64 l.trees_room z)

@@ -20,7 +20,7 @@ use Rattle.model.specs.Calls.{Answer, refuse_if, root_only, rooted, set_root}
 use Rattle.model.specs.Valid.{valid}
 use Rattle.model.proofs.CallsKeep.{fresh_valid}
 use Rattle.names.specs.Check.{size_of}
-use Rattle.names.specs.Answers.{checkedAs}
+use Rattle.names.specs.Answers.{checked_as}
 use Rattle.names.specs.declared.tree.Checked.{Checked}
 use Rattle.names.specs.declared.tree.Checked.TheVariants.{Broken}
 use Rattle.store_runs.specs.Digits.{digits}
@@ -107,8 +107,8 @@ stays raw s code e n =
       kept = λ h. refl;
     }
 
-pub no_root : (raw : Bytes) (s : Lent) (r : Checked) → checkedAs r ≡ size_of (read_tree 20 raw) → r ≡ Broken → Roots raw s 12 s
-no_root raw s r e f = stays raw s 12 (rooted_none (viewed s) ∙ sym (ap (rooted (viewed s)) (size_none (read_tree 20 raw) (sym (ap checkedAs f) ∙ e)))) (λ z. omega (arith, z))
+pub no_root : (raw : Bytes) (s : Lent) (r : Checked) → checked_as r ≡ size_of (read_tree 20 raw) → r ≡ Broken → Roots raw s 12 s
+no_root raw s r e f = stays raw s 12 (rooted_none (viewed s) ∙ sym (ap (rooted (viewed s)) (size_none (read_tree 20 raw) (sym (ap checked_as f) ∙ e)))) (λ z. omega (arith, z))
 
 module _ (raw : Bytes) (s : Lent) (n m : ℕ) (size : size_of (read_tree 20 raw) ≡ some (record { entries = n; bytes = m })) where
   abbrev root : Tree

@@ -2,7 +2,7 @@
 ghost use Rattle.std.specs.Prelude.{◌≡◌, [], ◌≤◌, length, take};
 ghost use Rattle.model.specs.Formats.{sha1};
 ghost use Rattle.model.specs.Calls as model;
-ghost use Rattle.editor_terms.specs.Answers.{codeNumber};
+ghost use Rattle.editor_terms.specs.Answers.{code_number};
 ghost use Rattle.editor_terms.specs.Objects.{table_of};
 ghost use Rattle.editor.specs.Lent.{lent, Does};
 ghost use Rattle.editor.specs.Looks.{standing, prefix_of, cursor_at};
@@ -58,9 +58,9 @@ pub struct Opened {
 
 // The cursor of an opening that was answered so.
 fn placed(path: &[u8], code: Code) -> Cursor
-    requires { codeNumber code ≡ 0 → length path.now ≤ 1024 }
-    ensures { (codeNumber code ≡ 0 → prefix_of result ≡ path.now) × ((codeNumber code ≡ 0 → ⊥) → prefix_of result ≡ [])
-        × (codeNumber code ≡ 0 → result ≡ cursor_at path.now) × ((codeNumber code ≡ 0 → ⊥) → result ≡ cursor_at []) }
+    requires { code_number code ≡ 0 → length path.now ≤ 1024 }
+    ensures { (code_number code ≡ 0 → prefix_of result ≡ path.now) × ((code_number code ≡ 0 → ⊥) → prefix_of result ≡ [])
+        × (code_number code ≡ 0 → result ≡ cursor_at path.now) × ((code_number code ≡ 0 → ⊥) → result ≡ cursor_at []) }
 {
     if editor_terms::code::number(code) != 0 {
         return to_cursor();
@@ -82,10 +82,10 @@ pub fn cursor_at(
     path: &[u8],
 ) -> Opened
     ensures { Does (model.opened sha1 (table_of ids.now ends.now raws.now) path.now)
-        (lent ed plens.old paths.old tlens.old trees.old order.now) (codeNumber result.code)
+        (lent ed plens.old paths.old tlens.old trees.old order.now) (code_number result.code)
         (lent result.ed plens.new paths.new tlens.new trees.new order.now)
-        × (codeNumber result.code ≡ 0 → prefix_of result.cursor ≡ path.now) × ((codeNumber result.code ≡ 0 → ⊥) → prefix_of result.cursor ≡ [])
-        × (codeNumber result.code ≡ 0 → result.cursor ≡ cursor_at path.now) × ((codeNumber result.code ≡ 0 → ⊥) → result.cursor ≡ cursor_at []) }
+        × (code_number result.code ≡ 0 → prefix_of result.cursor ≡ path.now) × ((code_number result.code ≡ 0 → ⊥) → prefix_of result.cursor ≡ [])
+        × (code_number result.code ≡ 0 → result.cursor ≡ cursor_at path.now) × ((code_number result.code ≡ 0 → ⊥) → result.cursor ≡ cursor_at []) }
 {
     let edit = Edit::Upsert(EntryKind::Tree, editor_terms::id::NULL);
     let a = crate::edit::edit(

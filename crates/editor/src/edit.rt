@@ -5,7 +5,7 @@ ghost use Rattle.model.specs.Valid.{valid};
 ghost use Rattle.model.specs.Calls as model;
 ghost use Rattle.store_slots.specs.View.{Laid, view_of, editor_of};
 ghost use Rattle.editor_walk.specs.Steps.{editor_at};
-ghost use Rattle.editor_terms.specs.Answers.{codeNumber};
+ghost use Rattle.editor_terms.specs.Answers.{code_number};
 ghost use Rattle.editor_terms.specs.Edits.{as_edit};
 ghost use Rattle.editor_terms.specs.Objects.{table_of};
 ghost use Rattle.editor.specs.Lent.{lent, Does};
@@ -99,7 +99,7 @@ pub fn edit(
     opening: bool,
 ) -> Answer
     ensures { Does (model.edited sha1 (table_of ids.now ends.now raws.now) (as_edit edit) opening prefix.now path.now)
-        (lent ed plens.old paths.old tlens.old trees.old order.now) (codeNumber result.code)
+        (lent ed plens.old paths.old tlens.old trees.old order.now) (code_number result.code)
         (lent result.ed plens.new paths.new tlens.new trees.new order.now) }
 {
     if !store_check::holds::holds(ed, plens, paths, tlens, trees, order) {

@@ -7,7 +7,7 @@ ghost use Rattle.model.specs.Calls.{root_only, set_root};
 ghost use Rattle.model.specs.Formats.{sha1};
 ghost use Rattle.names.specs.Check.{size_of};
 ghost use Rattle.store_slots.specs.View.{tree_room, editor_of, Holds};
-ghost use Rattle.editor_terms.specs.Answers.{codeNumber};
+ghost use Rattle.editor_terms.specs.Answers.{code_number};
 ghost use Rattle.store_check.specs.Decides.{Decides};
 ghost use Rattle.editor.specs.Lent.{lent, Long, Does};
 ghost use Rattle.editor.specs.Roots.{Roots, Makes};
@@ -53,7 +53,7 @@ fn rooted(
 ) -> Answer
     requires { (64 ≤ length plens.old) × (8192 ≤ length paths.old) × (64 ≤ length tlens.old) × (38912 ≤ length trees.old) }
     ensures { (order : List ℕ) → 64 ≤ length order
-        → Roots raw.now (lent ed plens.old paths.old tlens.old trees.old order) (codeNumber result.code)
+        → Roots raw.now (lent ed plens.old paths.old tlens.old trees.old order) (code_number result.code)
         (lent result.ed plens.new paths.new tlens.new trees.new order) }
 {
     match names::tree::well_formed(raw, WIDTH) {
@@ -126,7 +126,7 @@ pub fn new(
     order: &[u64],
     raw: &[u8],
 ) -> Answer
-    ensures { Makes raw.now (lent ed plens.old paths.old tlens.old trees.old order.now) (codeNumber result.code)
+    ensures { Makes raw.now (lent ed plens.old paths.old tlens.old trees.old order.now) (code_number result.code)
         (lent result.ed plens.new paths.new tlens.new trees.new order.now) }
 {
     if !long_enough(plens, paths, tlens, trees, order) {
@@ -148,7 +148,7 @@ pub fn set_root(
     order: &[u64],
     raw: &[u8],
 ) -> Answer
-    ensures { Does (set_root sha1 raw.now) (lent ed plens.old paths.old tlens.old trees.old order.now) (codeNumber result.code)
+    ensures { Does (set_root sha1 raw.now) (lent ed plens.old paths.old tlens.old trees.old order.now) (code_number result.code)
         (lent result.ed plens.new paths.new tlens.new trees.new order.now) }
 {
     if !store_check::holds::holds(ed, plens, paths, tlens, trees, order) {

@@ -7,7 +7,7 @@ use Rattle.model.specs.Tree.{Mode, TREE, is_tree, Entry, entry_of, without, with
 use Rattle.model.specs.Walk.{ANY, LEAF, remove, upsert, stop, last, down, pick_turn, through, to_remove, removed, at_last, at_earlier, turn}
 use Rattle.model.specs.Measure.{Counts, less_name, stays, ends, goes, pick_sight, seen_last, seen_earlier, seen}
 use Rattle.model.proofs.Basics.{none_some, some_none, some_inj}
-use Rattle.names.specs.Answers.{asMode}
+use Rattle.names.specs.Answers.{as_mode}
 use Rattle.editor_terms.specs.Ids.{id_bytes}
 use Rattle.editor_terms.specs.Edits.{as_removal, parts_of, seen_as, TurnIs}
 use Rattle.editor_terms.specs.declared.id.Id.{Id}
@@ -27,10 +27,10 @@ pub seen_none : (o : Option Entry) → seen_as S.Nothing ≡ parts_of o → o �
 seen_none none h = refl
 seen_none (some e) h = none_some (e.mode, e.id) h
 
-pub seen_some : (k : EntryKind) (i : Id) (o : Option Entry) → seen_as (S.Entry k i) ≡ parts_of o → (e : Entry) × (o ≡ some e) × (e.mode ≡ asMode k) × (e.id ≡ id_bytes i)
-seen_some k i none h = some_none (asMode k, id_bytes i) h
+pub seen_some : (k : EntryKind) (i : Id) (o : Option Entry) → seen_as (S.Entry k i) ≡ parts_of o → (e : Entry) × (o ≡ some e) × (e.mode ≡ as_mode k) × (e.id ≡ id_bytes i)
+seen_some k i none h = some_none (as_mode k, id_bytes i) h
 seen_some k i (some e) h =
-    let q = some_inj (asMode k, id_bytes i) (e.mode, e.id) h in
+    let q = some_inj (as_mode k, id_bytes i) (e.mode, e.id) h in
     (e, refl, sym (ap (λ (z : Mode × Bytes). z.0) q), sym (ap (λ (z : Mode × Bytes). z.1) q))
 
 -- a removal where nothing is
@@ -60,7 +60,7 @@ cuts_any m i =
       counts = λ n u o h. ap (λ (z : Option Entry). seen_last (remove ANY) n u z) (seen_some m i o h).1;
     }
 
-pub refuses_tree : (m : EntryKind) (i : Id) → is_tree (asMode m) ≡ true → TurnIs (E.Remove R.Leaf) true (S.Entry m i) (T.Stop C.NotALeaf)
+pub refuses_tree : (m : EntryKind) (i : Id) → is_tree (as_mode m) ≡ true → TurnIs (E.Remove R.Leaf) true (S.Entry m i) (T.Stop C.NotALeaf)
 unfolding turn at_last removed seen seen_last
 refuses_tree m i f =
     record {
@@ -72,7 +72,7 @@ refuses_tree m i f =
           ap (λ (z : Option Entry). seen_last (remove LEAF) n u z) x.1 ∙ ap (λ (b : Bool). pick_sight b (stays 4) (ends (less_name n u))) (ap is_tree x.2 ∙ f);
     }
 
-pub cuts_leaf : (m : EntryKind) (i : Id) → is_tree (asMode m) ≡ false → TurnIs (E.Remove R.Leaf) true (S.Entry m i) T.Cut
+pub cuts_leaf : (m : EntryKind) (i : Id) → is_tree (as_mode m) ≡ false → TurnIs (E.Remove R.Leaf) true (S.Entry m i) T.Cut
 unfolding turn at_last removed seen seen_last
 cuts_leaf m i f =
     record {
@@ -89,17 +89,17 @@ unfolding turn at_last seen seen_last
 puts k i S.Nothing =
     record {
       walks = λ n t h. refl;
-      counts = λ n u o h. ap (λ (z : Option Entry). seen_last (upsert (asMode k) (id_bytes i)) n u z) (seen_none o h);
+      counts = λ n u o h. ap (λ (z : Option Entry). seen_last (upsert (as_mode k) (id_bytes i)) n u z) (seen_none o h);
     }
 puts k i (S.Entry m j) =
     record {
       walks = λ n t h. refl;
-      counts = λ n u o h. ap (λ (z : Option Entry). seen_last (upsert (asMode k) (id_bytes i)) n u z) (seen_some m j o h).1;
+      counts = λ n u o h. ap (λ (z : Option Entry). seen_last (upsert (as_mode k) (id_bytes i)) n u z) (seen_some m j o h).1;
     }
 
 -- at an earlier component
 module _ (m : EntryKind) (j : Id) where
-  pub removes_below : (k : RemoveKind) → is_tree (asMode m) ≡ true → TurnIs (E.Remove k) false (S.Entry m j) (T.Down j)
+  pub removes_below : (k : RemoveKind) → is_tree (as_mode m) ≡ true → TurnIs (E.Remove k) false (S.Entry m j) (T.Down j)
   unfolding turn at_earlier to_remove seen seen_earlier
   removes_below k f =
       record {
@@ -111,7 +111,7 @@ module _ (m : EntryKind) (j : Id) where
             ap (λ (z : Option Entry). seen_earlier (remove (as_removal k)) n u z) x.1 ∙ ap₂ (λ (b : Bool) (l : Bytes). pick_sight b (goes u (some l)) (stays 0)) (ap is_tree x.2 ∙ f) x.3;
       }
 
-  pub removes_no_further : (k : RemoveKind) → is_tree (asMode m) ≡ false → TurnIs (E.Remove k) false (S.Entry m j) (T.Stop C.Done)
+  pub removes_no_further : (k : RemoveKind) → is_tree (as_mode m) ≡ false → TurnIs (E.Remove k) false (S.Entry m j) (T.Stop C.Done)
   unfolding turn at_earlier to_remove seen seen_earlier
   removes_no_further k f =
       record {
@@ -124,7 +124,7 @@ module _ (m : EntryKind) (j : Id) where
       }
 
   module _ (k : EntryKind) (i : Id) where
-    pub upserts_below : is_tree (asMode m) ≡ true → TurnIs (E.Upsert k i) false (S.Entry m j) (T.Down j)
+    pub upserts_below : is_tree (as_mode m) ≡ true → TurnIs (E.Upsert k i) false (S.Entry m j) (T.Down j)
     unfolding turn at_earlier through seen seen_earlier
     upserts_below f =
         record {
@@ -134,10 +134,10 @@ module _ (m : EntryKind) (j : Id) where
               ∙ ap₂ (λ (b : Bool) (l : Bytes). pick_turn b (down t (some l)) (down (with_entry (record { mode = TREE; name = n; id = null 20 }) t) none)) (ap is_tree x.2 ∙ f) x.3;
           counts = λ n u o h.
               let x = seen_some m j o h in
-              ap (λ (z : Option Entry). seen_earlier (upsert (asMode k) (id_bytes i)) n u z) x.1 ∙ ap₂ (λ (b : Bool) (l : Bytes). pick_sight b (goes u (some l)) (goes u none)) (ap is_tree x.2 ∙ f) x.3;
+              ap (λ (z : Option Entry). seen_earlier (upsert (as_mode k) (id_bytes i)) n u z) x.1 ∙ ap₂ (λ (b : Bool) (l : Bytes). pick_sight b (goes u (some l)) (goes u none)) (ap is_tree x.2 ∙ f) x.3;
         }
 
-    pub upserts_over : is_tree (asMode m) ≡ false → TurnIs (E.Upsert k i) false (S.Entry m j) (T.Put K.Tree (record { a = 0; b = 0; c = 0; d = 0; e = 0 }))
+    pub upserts_over : is_tree (as_mode m) ≡ false → TurnIs (E.Upsert k i) false (S.Entry m j) (T.Put K.Tree (record { a = 0; b = 0; c = 0; d = 0; e = 0 }))
     unfolding turn at_earlier through seen seen_earlier
     upserts_over f =
         record {
@@ -148,7 +148,7 @@ module _ (m : EntryKind) (j : Id) where
               ∙ ap (λ (l : Bytes). down (with_entry (record { mode = TREE; name = n; id = l }) t) none) (sym null_id);
           counts = λ n u o h.
               let x = seen_some m j o h in
-              ap (λ (z : Option Entry). seen_earlier (upsert (asMode k) (id_bytes i)) n u z) x.1 ∙ ap₂ (λ (b : Bool) (l : Bytes). pick_sight b (goes u (some l)) (goes u none)) (ap is_tree x.2 ∙ f) x.3;
+              ap (λ (z : Option Entry). seen_earlier (upsert (as_mode k) (id_bytes i)) n u z) x.1 ∙ ap₂ (λ (b : Bool) (l : Bytes). pick_sight b (goes u (some l)) (goes u none)) (ap is_tree x.2 ∙ f) x.3;
         }
 
 pub upserts_new : (k : EntryKind) (i : Id) → TurnIs (E.Upsert k i) false S.Nothing (T.Put K.Tree (record { a = 0; b = 0; c = 0; d = 0; e = 0 }))
@@ -157,5 +157,5 @@ upserts_new k i =
     record {
       walks = λ n t h.
           ap (λ (o : Option Entry). through (null 20) n t o) (seen_none (entry_of n t) (h refl)) ∙ ap (λ (l : Bytes). down (with_entry (record { mode = TREE; name = n; id = l }) t) none) (sym null_id);
-      counts = λ n u o h. ap (λ (z : Option Entry). seen_earlier (upsert (asMode k) (id_bytes i)) n u z) (seen_none o h);
+      counts = λ n u o h. ap (λ (z : Option Entry). seen_earlier (upsert (as_mode k) (id_bytes i)) n u z) (seen_none o h);
     }

@@ -3,18 +3,18 @@ use Rattle.std.specs.Prelude.{ℕ}
 use Rattle.editor_terms.specs.declared.code.Code.{Code}
 use Rattle.editor_terms.specs.declared.code.Code.TheVariants.{Done, EmptyComponent, TreeNotFound, TreeDamaged, NotALeaf, NoRoom, PathRefused, BadTable, CursorStale, WriteOpen, NoWriteOpen, OutputShort, BadRoot, StoreDamaged}
 
-abbrev pub codeNumber : Code → ℕ
-codeNumber Done = 0
-codeNumber EmptyComponent = 1
-codeNumber TreeNotFound = 2
-codeNumber TreeDamaged = 3
-codeNumber NotALeaf = 4
-codeNumber NoRoom = 5
-codeNumber PathRefused = 6
-codeNumber BadTable = 7
-codeNumber CursorStale = 8
-codeNumber WriteOpen = 9
-codeNumber NoWriteOpen = 10
-codeNumber (OutputShort needed) = 11
-codeNumber BadRoot = 12
-codeNumber StoreDamaged = 13
+abbrev pub code_number : Code → ℕ
+code_number Done = 0
+code_number EmptyComponent = 1
+code_number TreeNotFound = 2
+code_number TreeDamaged = 3
+code_number NotALeaf = 4
+code_number NoRoom = 5
+code_number PathRefused = 6
+code_number BadTable = 7
+code_number CursorStale = 8
+code_number WriteOpen = 9
+code_number NoWriteOpen = 10
+code_number (OutputShort needed) = 11
+code_number BadRoot = 12
+code_number StoreDamaged = 13

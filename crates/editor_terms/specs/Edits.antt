@@ -5,8 +5,8 @@ use Rattle.model.specs.Bytes.{Bytes}
 use Rattle.model.specs.Tree.{Mode, Entry, Tree, entry_of, without, with_entry, null}
 use Rattle.model.specs.Walk as walk
 use Rattle.model.specs.Measure.{Counts, plus_name, less_name, Sight, stays, ends, goes, seen}
-use Rattle.names.specs.Answers.{asMode, entry}
-use Rattle.editor_terms.specs.Answers.{codeNumber}
+use Rattle.names.specs.Answers.{as_mode, entry}
+use Rattle.editor_terms.specs.Answers.{code_number}
 use Rattle.editor_terms.specs.Ids.{id_bytes}
 use Rattle.editor_terms.specs.declared.edit.RemoveKind.{RemoveKind}
 use Rattle.editor_terms.specs.declared.edit.RemoveKind.TheVariants.{Any, Leaf}
@@ -25,7 +25,7 @@ as_removal Leaf = walk.LEAF
 
 abbrev pub as_edit : Edit → walk.Edit
 as_edit (Remove kind) = walk.remove (as_removal kind)
-as_edit (Upsert kind id) = walk.upsert (asMode kind) (id_bytes id)
+as_edit (Upsert kind id) = walk.upsert (as_mode kind) (id_bytes id)
 
 -- mode and id of an entry, which are what an edit and a lookup ask of it
 abbrev pub parts_of : Option Entry → Option (Mode × Bytes)
@@ -33,7 +33,7 @@ parts_of none = none
 parts_of (some e) = some (e.mode, e.id)
 
 abbrev pub seen_as : Seen → Option (Mode × Bytes)
-seen_as (S.Entry kind id) = some (asMode kind, id_bytes id)
+seen_as (S.Entry kind id) = some (as_mode kind, id_bytes id)
 seen_as S.Nothing = none
 
 -- the current tree after a turn at the name n, the id of the tree to load below, and the number of a walk that ends here
@@ -50,7 +50,7 @@ wanted_by (Put kind id) = none
 wanted_by (Down id) = some (id_bytes id)
 
 abbrev pub ends_with : Turn → ℕ
-ends_with (Stop code) = codeNumber code
+ends_with (Stop code) = code_number code
 ends_with Cut = 0
 ends_with (Put kind id) = 0
 ends_with (Down id) = 0
@@ -61,7 +61,7 @@ wanted_as W.Nothing = none
 
 -- the model's turn that a turn is, at the last component or an earlier one
 abbrev pub turn_as : Turn → Bool → Bytes → Tree → walk.Turn
-turn_as (Stop code) is_last n t = walk.stop (codeNumber code)
+turn_as (Stop code) is_last n t = walk.stop (code_number code)
 turn_as Cut is_last n t = walk.last (changed Cut n t)
 turn_as (Put kind id) true n t = walk.last (changed (Put kind id) n t)
 turn_as (Put kind id) false n t = walk.down (changed (Put kind id) n t) none
@@ -85,7 +85,7 @@ counts_after (Put kind id) s n u = put_counts s n u
 counts_after (Down id) s n u = u
 
 abbrev pub sight_as : Turn → Bool → Seen → Bytes → Counts → Sight
-sight_as (Stop code) is_last s n u = stays (codeNumber code)
+sight_as (Stop code) is_last s n u = stays (code_number code)
 sight_as Cut is_last s n u = ends (less_name n u)
 sight_as (Put kind id) true s n u = ends (put_counts s n u)
 sight_as (Put kind id) false s n u = goes (put_counts s n u) none

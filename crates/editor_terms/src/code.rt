@@ -1,6 +1,6 @@
 // What a call answers.
 ghost use Rattle.std.specs.Prelude.{◌≡◌};
-ghost use Rattle.editor_terms.specs.Answers.{codeNumber};
+ghost use Rattle.editor_terms.specs.Answers.{code_number};
 
 // One case for each of the numbers; the output that is too short comes with the length needed.
 #[derive(Clone, Copy)]
@@ -23,7 +23,7 @@ pub enum Code {
 
 // The number of an answer.
 pub fn number(code: Code) -> u8
-    ensures { result ≡ codeNumber code }
+    ensures { result ≡ code_number code }
 {
     match code {
         Code::Done => 0,

@@ -3,7 +3,7 @@ ghost use Rattle.std.specs.Prelude.{◌≡◌, true, false};
 ghost use Rattle.model.specs.Bytes.{Bytes};
 ghost use Rattle.model.specs.Tree.{Tree};
 ghost use Rattle.model.specs.Walk.{is_leaf_removal};
-ghost use Rattle.editor_terms.specs.Answers.{codeNumber};
+ghost use Rattle.editor_terms.specs.Answers.{code_number};
 ghost use Rattle.editor_terms.specs.Edits.{as_edit, TurnIs, turn_as, goes_on, wanted_by, wanted_as, ends_with};
 ghost use Rattle.editor_terms.specs.declared.edit.Edit.TheVariants.{Remove, Upsert};
 ghost use Rattle.editor_terms.specs.declared.edit.Seen.TheVariants.{Entry};
@@ -141,7 +141,7 @@ pub fn wanted_by(turn: Turn) -> Wanted
 
 // The number of a walk that ends after a turn.
 pub fn end_code(turn: Turn) -> Code
-    ensures { codeNumber result ≡ ends_with turn }
+    ensures { code_number result ≡ ends_with turn }
 {
     match turn {
         Turn::Stop(code) => code,

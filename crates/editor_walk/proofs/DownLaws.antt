@@ -19,7 +19,7 @@ use Rattle.store_runs.specs.Digits.{digits}
 use Rattle.store_runs.specs.Runs.{cut}
 use Rattle.store_slots.specs.declared.Record.{Record}
 use Rattle.store_slots.specs.View.{view_of, Laid, Used, path_of, SameWrite}
-use Rattle.editor_terms.specs.Answers.{codeNumber}
+use Rattle.editor_terms.specs.Answers.{code_number}
 use Rattle.editor_terms.specs.declared.code.Code.{Code}
 use Rattle.editor_terms.specs.declared.code.Code.TheVariants.{Done}
 use Rattle.editor_walk.specs.Landings.{caches, stops, planned, RawIs, LandsAs}
@@ -58,7 +58,7 @@ module _ (r : Record) (plens paths tlens trees : List ℕ) (raws q : Bytes) (x :
     down_halt {code} e =
         record {
           stand = stays;
-          leaves = subst (λ (z : Landing). LandLeaves raws q view view z false (codeNumber code)) (sym e) (refl, refl, refl);
+          leaves = subst (λ (z : Landing). LandLeaves raws q view view z false (code_number code)) (sym e) (refl, refl, refl);
           done = λ g. no_way (sym g);
           slot = λ g. no_way (sym g);
         }
@@ -181,12 +181,12 @@ module _ (T : Table) (e : Edit) (i : Option Bytes) {r : Record} {plens paths tle
         going_on (Load y) k k.leaves.0 (put at (q ↝ t) before) (enter_new sha1 T e q before i (caches t) g.0 p) (k.leaves.1 t z)
     stepped_down (Halt code) l k =
         let g = halt_plan T e i L cl raws q (Halt code) l refl in
-        let h : enter sha1 T e q before i ≡ halt (codeNumber code) = enter_new sha1 T e q before i (stops (codeNumber code)) g.0 g.1 in
-        let w = ended_code (codeNumber code) before in
+        let h : enter sha1 T e q before i ≡ halt (code_number code) = enter_new sha1 T e q before i (stops (code_number code)) g.0 g.1 in
+        let w = ended_code (code_number code) before in
         record {
           stand = k.stand;
           stop = λ f next.
-              let b : down_as T e q i before next ≡ ended (codeNumber code) before = below_halt next before (codeNumber code) (enter sha1 T e q before i) h in
+              let b : down_as T e q i before next ≡ ended (code_number code) before = below_halt next before (code_number code) (enter sha1 T e q before i) h in
               (ap (λ (z : Walked). z.code) b ∙ w.0 ∙ sym k.leaves.1, ap (λ (z : Walked). z.now) b ∙ w.1 ∙ sym k.leaves.2);
           on = λ f. no_way (sym f ∙ k.leaves.0);
           done = k.done;

@@ -19,7 +19,7 @@ use Rattle.model.specs.Measure.{Counts, plus_tree, landing, land_new, land_raw, 
 use Rattle.model.specs.Measure as measure
 use Rattle.model.proofs.Basics.{none_some}
 use Rattle.names_compact.proofs.PackLaws.{size_inv}
-use Rattle.names.specs.Answers.{checkedAs}
+use Rattle.names.specs.Answers.{checked_as}
 use Rattle.names.specs.Check.{size_of}
 use Rattle.names.specs.declared.tree.Checked.{Checked}
 use Rattle.names.specs.declared.tree.Checked.TheVariants.{WellFormed, Broken}
@@ -31,7 +31,7 @@ use Rattle.store_runs.specs.declared.runs.Found.TheVariants as F
 use Rattle.store_slots.specs.declared.Record.{Record}
 use Rattle.store_slots.specs.View.{view_of, cached_of, held_in, Laid, Used, path_of}
 use Rattle.store_slots.proofs.Cached.{cached_view}
-use Rattle.editor_terms.specs.Answers.{codeNumber}
+use Rattle.editor_terms.specs.Answers.{code_number}
 use Rattle.editor_terms.specs.Objects.{bytes_at, FoundIn}
 use Rattle.editor_terms.specs.declared.code.Code.{Code}
 use Rattle.editor_terms.specs.declared.code.Code.TheVariants.{TreeNotFound, TreeDamaged}
@@ -125,16 +125,16 @@ module _ (T : Table) (i raws : Bytes) {x : Object} (f : FoundIn (looked_up 20 T 
     plan_is : read_plan sha1 (looked_up sha1.width T i) ≡ tree_plan (read_tree 20 raw)
     plan_is = ap (read_plan sha1) (wanted ∙ ap (bytes_at raws) e) ∙ ap (λ (w : ℕ). tree_plan (read_tree w raw)) wide
 
-    module _ {bytes : Bytes} {n : ℕ} (en : n ≡ to - from) (eb : bytes ≡ take n (drop from raws)) (c : Checked) (s : checkedAs c ≡ size_of (read_tree 20 bytes)) where
-      checked : checkedAs c ≡ size_of (read_tree 20 raw)
+    module _ {bytes : Bytes} {n : ℕ} (en : n ≡ to - from) (eb : bytes ≡ take n (drop from raws)) (c : Checked) (s : checked_as c ≡ size_of (read_tree 20 bytes)) where
+      checked : checked_as c ≡ size_of (read_tree 20 raw)
       checked = s ∙ ap (λ (l : Bytes). size_of (read_tree 20 l)) (eb ∙ ap (λ (k : ℕ). take k (drop from raws)) en)
 
       pub plan_broken : c ≡ Broken → PlanIs raws (read_plan sha1 (looked_up sha1.width T i)) (Halt TreeDamaged)
-      plan_broken b = plan_is ∙ ap tree_plan (size_none (read_tree 20 raw) (sym (ap checkedAs b) ∙ checked))
+      plan_broken b = plan_is ∙ ap tree_plan (size_none (read_tree 20 raw) (sym (ap checked_as b) ∙ checked))
 
       pub plan_load : {entries names : ℕ} → c ≡ WellFormed entries names → PlanIs raws (read_plan sha1 (looked_up sha1.width T i)) (Load (record { from = from; to = to; entries = entries; names = names }))
       plan_load {entries} {names} b =
-          let (t, r, en, nn) = size_inv (read_tree 20 raw) (record { entries = entries; bytes = names }) (sym (ap checkedAs b) ∙ checked) in
+          let (t, r, en, nn) = size_inv (read_tree 20 raw) (record { entries = entries; bytes = names }) (sym (ap checked_as b) ∙ checked) in
           (t, record { order = in_raws.0; inside = in_raws.1; reads = r; entries = en; names = nn }, plan_is ∙ ap tree_plan r)
 
 -- an id that is given
@@ -189,7 +189,7 @@ module _ (T : Table) (e : Edit) (i : Option Bytes) {r : Record} {plens paths tle
       let g : LandsTo (Load y) = subst LandsTo h l in
       (none_there g.0, g.1)
 
-  pub halt_plan : {code : Code} → x ≡ Halt code → (find at q view ≡ none) × (planned sha1 T (is_leaf_removal e) i ≡ stops (codeNumber code))
+  pub halt_plan : {code : Code} → x ≡ Halt code → (find at q view ≡ none) × (planned sha1 T (is_leaf_removal e) i ≡ stops (code_number code))
   halt_plan {code} h =
       let g : LandsTo (Halt code) = subst LandsTo h l in
       (none_there g.0, g.1)

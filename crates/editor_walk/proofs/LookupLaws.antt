@@ -17,7 +17,7 @@ use Rattle.model.specs.Lookup as model
 use Rattle.model.specs.Lookup.{look_on, look}
 use Rattle.model.proofs.ChangeLaws.{Plain}
 use Rattle.model.proofs.Basics.{and_false}
-use Rattle.names.specs.Answers.{asMode, entry}
+use Rattle.names.specs.Answers.{as_mode, entry}
 use Rattle.names.specs.Places.{first_piece}
 use Rattle.names_compact.specs.Compact.{unpack}
 use Rattle.names.specs.declared.mode.EntryKind.{EntryKind}
@@ -60,7 +60,7 @@ on_earlier c rest x = refl
 made : Mode → Bytes → Bytes → Entry
 made m n i = record { mode = m; name = n; id = i }
 
-entry_is : (kind : EntryKind) (m : Bytes) (id : Id) (x : Entry) → m ≡ x.name → x.mode ≡ asMode kind → x.id ≡ id_bytes id → entry kind m (id_bytes id) ≡ x
+entry_is : (kind : EntryKind) (m : Bytes) (id : Id) (x : Entry) → m ≡ x.name → x.mode ≡ as_mode kind → x.id ≡ id_bytes id → entry kind m (id_bytes id) ≡ x
 unfolding made
 entry_is kind m id x en em ei = ap₂ (λ (a : Mode) (l : Bytes). made a m l) (sym em) (sym ei) ∙ ap (λ (l : Bytes). made x.mode l x.id) en
 
@@ -78,21 +78,21 @@ module _ (ds : List ℕ) (ps : List Bytes) (t : Tree) (q n : Bytes) where
         ∙ sym (ap₂ (λ (z : Bool) (o : Option Entry). look_on z (is_some (find at q (gather (slots_of 20 ds ps bs)))) rest o) e x.1 ∙ on_last (is_some (find at q (gather (slots_of 20 ds ps bs)))) rest x.0)
 
     module _ (b : Bool) (e : b ≡ false) where
-      earlier : (bs : List Bytes) (rest : model.Looked) → step_look ds ps t q n b bs rest ≡ model.pick_looked (is_tree (asMode kind) && is_some (find at q (gather (slots_of 20 ds ps bs)))) rest model.missing
+      earlier : (bs : List Bytes) (rest : model.Looked) → step_look ds ps t q n b bs rest ≡ model.pick_looked (is_tree (as_mode kind) && is_some (find at q (gather (slots_of 20 ds ps bs)))) rest model.missing
       earlier bs rest =
           let x = seen_some kind id (entry_of_lookup n t) s in
           ap₂ (λ (z : Bool) (o : Option Entry). look_on z (is_some (find at q (gather (slots_of 20 ds ps bs)))) rest o) e x.1
           ∙ on_earlier (is_some (find at q (gather (slots_of 20 ds ps bs)))) rest x.0
           ∙ ap (λ (z : Mode). model.pick_looked (is_tree z && is_some (find at q (gather (slots_of 20 ds ps bs)))) rest model.missing) x.2
 
-      pub look_other : is_tree (asMode kind) ≡ false → LookStepIs ds ps t q n b (Over Missing)
+      pub look_other : is_tree (as_mode kind) ≡ false → LookStepIs ds ps t q n b (Over Missing)
       look_other f bs l m g rest = sym (earlier bs rest ∙ ap (λ (z : Bool). model.pick_looked (z && is_some (find at q (gather (slots_of 20 ds ps bs)))) rest model.missing) f)
 
       pub look_uncached : ((v : ℕ) (runs : List Bytes) → length runs ≡ 64 → SlotIs v ds ps runs q F.Nothing) → LookStepIs ds ps t q n b (Over Missing)
       look_uncached g bs l m f rest =
-          sym (earlier bs rest ∙ ap (λ (o : Option Held). model.pick_looked (is_tree (asMode kind) && is_some o) rest model.missing) (g 20 bs l).0 ∙ ap (λ (z : Bool). model.pick_looked z rest model.missing) (and_false (is_tree (asMode kind))))
+          sym (earlier bs rest ∙ ap (λ (o : Option Held). model.pick_looked (is_tree (as_mode kind) && is_some o) rest model.missing) (g 20 bs l).0 ∙ ap (λ (z : Bool). model.pick_looked z rest model.missing) (and_false (is_tree (as_mode kind))))
 
-      pub look_on_lem : is_tree (asMode kind) ≡ true → length ds ≡ 64 → length ps ≡ 64 → (k : ℕ) → ((v : ℕ) (runs : List Bytes) → length runs ≡ 64 → SlotIs v ds ps runs q (F.At k)) → LookStepIs ds ps t q n b (In k)
+      pub look_on_lem : is_tree (as_mode kind) ≡ true → length ds ≡ 64 → length ps ≡ 64 → (k : ℕ) → ((v : ℕ) (runs : List Bytes) → length runs ≡ 64 → SlotIs v ds ps runs q (F.At k)) → LookStepIs ds ps t q n b (In k)
       look_on_lem f ld lp k g =
           let x = seen_some kind id (entry_of_lookup n t) s in
           let h = either_named t n x.0 true false w p x.1 in

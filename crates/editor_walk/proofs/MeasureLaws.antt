@@ -30,7 +30,7 @@ use Rattle.store_slots.specs.View.{slots_of, gather, view_of, Laid, Used, path_o
 use Rattle.store_slots.proofs.Relaid.{find_slot}
 use Rattle.store_slots.proofs.Changes.{searched_run}
 use Rattle.model.proofs.SoundTrees.{sound_well}
-use Rattle.editor_terms.specs.Answers.{codeNumber}
+use Rattle.editor_terms.specs.Answers.{code_number}
 use Rattle.editor_terms.specs.Edits.{as_edit, parts_of, seen_as, turn_as, goes_on, wanted_by, ends_with, counts_after, sight_as, TurnIs}
 use Rattle.editor_terms.specs.declared.code.Code.{Code}
 use Rattle.editor_terms.specs.declared.code.Code.TheVariants.{Done}
@@ -158,12 +158,12 @@ module _ {x : Landing} {n : ℕ} where
       }
 
   module _ {u : Counts} {g : MeasureStep} where
-    pub landed_halt : {code : Code} → EndsAs (codeNumber code) true g → x ≡ Halt code → LandedAs x n u g
+    pub landed_halt : {code : Code} → EndsAs (code_number code) true g → x ≡ Halt code → LandedAs x n u g
     landed_halt {code} e ex =
         record {
           is = λ tlens trees raws q l en li.
               let h : LandIs tlens trees raws q u (Halt code) l = subst (λ (z : Landing). LandIs tlens trees raws q u z l) ex li in
-              ends_stop e (λ next. on_halts next u l (codeNumber code) h);
+              ends_stop e (λ next. on_halts next u l (code_number code) h);
         }
 
     pub landed_fresh : CachesAs Empty 0 0 n u g → x ≡ Fresh → LandedAs x n u g
@@ -200,7 +200,7 @@ land_is T e i ds ps raws q u tlens trees ld lt (Load r) l =
     (t, k, landing_new sha1 T e q u i (find at q (gather (slots_of 20 ds ps (cut tlens trees)))) (caches t) f.0 p)
 land_is T e i ds ps raws q u tlens trees ld lt (Halt code) l =
     let f = l.0 20 (cut tlens trees) (length_cut tlens trees ∙ lt) in
-    landing_new sha1 T e q u i (find at q (gather (slots_of 20 ds ps (cut tlens trees)))) (stops (codeNumber code)) f.0 l.1
+    landing_new sha1 T e q u i (find at q (gather (slots_of 20 ds ps (cut tlens trees)))) (stops (code_number code)) f.0 l.1
 
 -- the turn at a component
 module _ (T : Table) (e : walk.Edit) (q : Bytes) (o : Option Held) (n : Bytes) (u : Counts) (s : Seen) (opening : Bool) (next : Next) where
@@ -337,11 +337,11 @@ module _ {T : Table} {e : walk.Edit} {opening : Bool} {c : Cache} {tlens trees :
   last_over : b ≡ true → (t : Tree) (v : Counts) → rest_of_lem t v ≡ over 0
   last_over h t v = ap (λ (z : Bool). measured sha1 T e opening (rest_of z p k) q t c v) h
 
-  stopped : g.kept ≡ true → goal ≡ over (codeNumber g.code) → MeasuredAs goal (record { code = g.code; kept = g.kept })
+  stopped : g.kept ≡ true → goal ≡ over (code_number g.code) → MeasuredAs goal (record { code = g.code; kept = g.kept })
   stopped a h =
       record {
-        kept = a ∙ sym (ap (λ (z : Measured). z.kept) h ∙ over_kept (codeNumber g.code));
-        code = λ y. sym (ap (λ (z : Measured). z.code) h ∙ over_code (codeNumber g.code));
+        kept = a ∙ sym (ap (λ (z : Measured). z.kept) h ∙ over_kept (code_number g.code));
+        code = λ y. sym (ap (λ (z : Measured). z.code) h ∙ over_code (code_number g.code));
         past = λ y. no_way (sym a ∙ y);
       }
 

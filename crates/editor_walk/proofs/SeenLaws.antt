@@ -23,7 +23,7 @@ use Rattle.model.proofs.SearchLaws.{Right}
 use Rattle.model.proofs.SoundTrees.{name_plain, sound_well}
 use Rattle.names.proofs.FollowLaws.{file_tree}
 use Rattle.names_compact.proofs.TwinLaws.{told_right}
-use Rattle.names.specs.Answers.{asMode, entryRead}
+use Rattle.names.specs.Answers.{as_mode, entry_read}
 use Rattle.names_compact.specs.Compact.{unpack, blank, entry_at, spot_of, Tells}
 use Rattle.names.specs.Places.{read_entry_at, entry_found, entries_at}
 use Rattle.names_compact.specs.declared.compact.Place.{Place}
@@ -39,7 +39,7 @@ use Rattle.editor_walk.specs.Seen.{entry_by, SeenIn}
 use Rattle.editor_terms.specs.declared.edit.Seen.TheVariants as S
 use Rattle.editor_terms.specs.declared.id.Id.{Id}
 
-pub seen_parts : (k : EntryKind) (i : Id) (e : Entry) → asMode k ≡ e.mode → id_bytes i ≡ e.id → seen_as (S.Entry k i) ≡ parts_of (some e)
+pub seen_parts : (k : EntryKind) (i : Id) (e : Entry) → as_mode k ≡ e.mode → id_bytes i ≡ e.id → seen_as (S.Entry k i) ≡ parts_of (some e)
 seen_parts k i e p q = ap₂ (λ (m : Mode) (l : Bytes). some (m, l)) p q
 
 -- what the search of a tree in order gives
@@ -120,13 +120,13 @@ module _ {raw name : Bytes} {at : ℕ} (s : Scanning raw name at) where
             sym (ap parts_of (k.same ∙ ap (entry_of name) (no_more raw 20 at k.left k.rest h)));
       }
 
-  module _ (h : at < length raw) {r : EntryRead} (er : entryRead r ≡ read_entry_at raw at 20) where
+  module _ (h : at < length raw) {r : EntryRead} (er : entry_read r ≡ read_entry_at raw at 20) where
     pub scan_damaged : r ≡ Damaged → SeenIn raw name S.Nothing
     scan_damaged d =
         record {
           is = λ t e.
               let k = s.is t e in
-              none_some k.left (sym (entries_damaged raw 20 at h (sym er ∙ ap entryRead d)) ∙ k.rest);
+              none_some k.left (sym (entries_damaged raw 20 at h (sym er ∙ ap entry_read d)) ∙ k.rest);
         }
 
     module _ {kind : EntryKind} {name_at n id next : ℕ} (en : r ≡ EntryAt kind name_at n id next) where
@@ -134,15 +134,15 @@ module _ {raw name : Bytes} {at : ℕ} (s : Scanning raw name at) where
       x = entry_found raw 20 (found_of kind name_at n id next)
 
       pub scan_reach : Reach raw 20 at (found_of kind name_at n id next)
-      scan_reach = reach raw 20 (sym er ∙ ap entryRead en)
+      scan_reach = reach raw 20 (sym er ∙ ap entry_read en)
 
       pub id_inside : id + 20 ≤ length raw
       id_inside =
-          let z = stands raw 20 (sym er ∙ ap entryRead en) in
+          let z = stands raw 20 (sym er ∙ ap entry_read en) in
           omega (arith, z.id, z.next, z.inside)
 
       others : (left : Tree) → entries_at raw 20 at ≡ some left → (xs : Tree) × (entries_at raw 20 next ≡ some xs) × (x ∷ xs ≡ left)
-      others left e = more_inv x (entries_at raw 20 next) left (sym (entries_entry raw 20 at h (sym er ∙ ap entryRead en)) ∙ e)
+      others left e = more_inv x (entries_at raw 20 next) left (sym (entries_entry raw 20 at h (sym er ∙ ap entry_read en)) ∙ e)
 
       module _ {l : Bytes} {b : Bool} (el : l ≡ take n (drop name_at raw)) (eb : b ≡ same l name) where
         pub scan_here : b ≡ true → {i : Id} → id_bytes i ≡ take 20 (drop id raw) → SeenIn raw name (S.Entry kind i)

@@ -21,7 +21,7 @@ use Rattle.store_slots.specs.declared.Record.{Record}
 use Rattle.store_slots.specs.View.{view_of, Laid, Used, path_of, tree_of, SameWrite}
 use Rattle.store_slots.proofs.Relaid.{find_slot}
 use Rattle.store_entries.specs.Entries.{Edited}
-use Rattle.editor_terms.specs.Answers.{codeNumber}
+use Rattle.editor_terms.specs.Answers.{code_number}
 use Rattle.editor_terms.specs.Edits.{as_edit, changed, looks, parts_of, seen_as, turn_as, goes_on, wanted_by, ends_with, TurnIs}
 use Rattle.editor_terms.specs.declared.code.Code.{Code}
 use Rattle.editor_terms.specs.declared.code.Code.TheVariants.{EmptyComponent}
@@ -62,7 +62,7 @@ module _ (T : Table) (e : walk.Edit) (opening : Bool) (p q n : Bytes) (c : Cache
 
   turned_stop : find at p c ≡ some (p ↝ t) → (r : Turn) (b : Bool) → goes_on opening (turn_as r b n t) ≡ false → ((made r b).code ≡ ends_with r) × ((made r b).now ≡ after r)
   unfolding turned
-  turned_stop f (Stop code) b h = ((ended_code (codeNumber code) c).0, (ended_code (codeNumber code) c).1 ∙ sym (put_there at (p ↝ t) c f))
+  turned_stop f (Stop code) b h = ((ended_code (code_number code) c).0, (ended_code (code_number code) c).1 ∙ sym (put_there at (p ↝ t) c f))
   turned_stop f Cut b h = ended_at Cut (made Cut b) (ends_at Cut h)
   turned_stop f (Put k i) true h = ended_at (Put k i) (made (Put k i) true) (ends_at (Put k i) h)
   turned_stop f (Put k i) false h = no_way h
@@ -120,7 +120,7 @@ module _ (T : Table) (edit : Edit) (opening b : Bool) (q n : Bytes) (r : Record)
     pub still_closed : r'.hidden ≡ r'.free
     still_closed = E.kept.hidden ∙ cl ∙ sym E.kept.free
 
-    pub step_stop : goes_on opening (turn_as x b n t) ≡ false → {code : Code} → codeNumber code ≡ ends_with x → SteppedAs r (step_as T (as_edit edit) opening b p q n c) q (step false code 0 r') plens paths tlens' trees'
+    pub step_stop : goes_on opening (turn_as x b n t) ≡ false → {code : Code} → code_number code ≡ ends_with x → SteppedAs r (step_as T (as_edit edit) opening b p q n c) q (step false code 0 r') plens paths tlens' trees'
     step_stop h ec =
         record {
           stand = record { laid = E.laid; closed = still_closed; write = E.kept.write };

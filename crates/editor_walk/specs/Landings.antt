@@ -13,7 +13,7 @@ use Rattle.model.specs.Measure as measure
 use Rattle.store_runs.specs.declared.runs.Found.{Found}
 use Rattle.store_runs.specs.declared.runs.Found.TheVariants.{At, Nothing}
 use Rattle.store_slots.specs.View.{SlotIs}
-use Rattle.editor_terms.specs.Answers.{codeNumber}
+use Rattle.editor_terms.specs.Answers.{code_number}
 use Rattle.editor_walk.specs.declared.land.Raw.{Raw}
 use Rattle.editor_walk.specs.declared.land.Landing.{Landing}
 use Rattle.editor_walk.specs.declared.land.Landing.TheVariants.{There, Fresh, Load, Halt}
@@ -62,7 +62,7 @@ abbrev pub PlanIs : Bytes → Plan → Landing → Type 0
 PlanIs raws plan (There slot) = ⊥
 PlanIs raws plan Fresh = plan ≡ caches []
 PlanIs raws plan (Load r) = (t : Tree) × RawIs raws r t × (plan ≡ caches t)
-PlanIs raws plan (Halt code) = plan ≡ stops (codeNumber code)
+PlanIs raws plan (Halt code) = plan ≡ stops (code_number code)
 
 -- the slot of the path q, whatever the trees are
 abbrev pub SlotFound : List ℕ → List Bytes → Bytes → Found → Type 0

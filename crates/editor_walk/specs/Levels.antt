@@ -14,7 +14,7 @@ use Rattle.model.specs.Measure as measure
 use Rattle.names_compact.specs.Compact.{Run}
 use Rattle.store_runs.specs.Runs.{run_of, Sound}
 use Rattle.store_slots.specs.View.{tree_of}
-use Rattle.editor_terms.specs.Answers.{codeNumber}
+use Rattle.editor_terms.specs.Answers.{code_number}
 use Rattle.editor_terms.specs.Edits.{parts_of, seen_as}
 use Rattle.editor_terms.specs.declared.edit.Seen.{Seen}
 use Rattle.editor_walk.specs.Counted.{counts_as}
@@ -46,21 +46,21 @@ pub record SeenAt (tlens trees : List ℕ) (raws : Bytes) (level : Level) (name 
 -- g says of a step how the measure goes on: whatever comes after it, a limit is passed, and the number is 5; or the walk stops with the number and all is
 -- kept; or what comes after it decides, from the tree at its level and its counts, which are within the limits
 pub record StepIs (tlens trees : List ℕ) (raws : Bytes) (m : (Tree → Counts → Measured) → Measured) (g : MeasureStep) : Type 0 where
-  pub past : g.kept ≡ false → (codeNumber g.code ≡ 5) × ((next : Tree → Counts → Measured) → (m next).kept ≡ false)
-  pub stop : g.kept ≡ true → g.going ≡ false → (next : Tree → Counts → Measured) → m next ≡ over (codeNumber g.code)
+  pub past : g.kept ≡ false → (code_number g.code ≡ 5) × ((next : Tree → Counts → Measured) → (m next).kept ≡ false)
+  pub stop : g.kept ≡ true → g.going ≡ false → (next : Tree → Counts → Measured) → m next ≡ over (code_number g.code)
   pub on : g.kept ≡ true → g.going ≡ true → (t : Tree) × Stands tlens trees raws g.level t × (within (counts_as g.counts) ≡ true)
       × ((next : Tree → Counts → Measured) → m next ≡ next t (counts_as g.counts))
-  pub done : g.kept ≡ true → g.going ≡ true → codeNumber g.code ≡ 0
+  pub done : g.kept ≡ true → g.going ≡ true → code_number g.code ≡ 0
 
 -- r is what the model's measure m says: whether the limits are kept, and the number that the edit ends with, which is 5 where they are not
 pub record MeasuredAs (m : Measured) (r : Answer) : Type 0 where
   pub kept : r.kept ≡ m.kept
-  pub code : r.kept ≡ true → codeNumber r.code ≡ m.code
-  pub past : r.kept ≡ false → codeNumber r.code ≡ 5
+  pub code : r.kept ≡ true → code_number r.code ≡ m.code
+  pub past : r.kept ≡ false → code_number r.code ≡ 5
 
 -- the walk is over, with the number k
 pub record EndsAs (k : ℕ) (b : Bool) (g : MeasureStep) : Type 0 where
-  pub code : codeNumber g.code ≡ k
+  pub code : code_number g.code ≡ k
   pub kept : g.kept ≡ b
   pub going : g.going ≡ false
 
@@ -74,7 +74,7 @@ abbrev pub LandIs : List ℕ → List ℕ → Bytes → Bytes → Counts → Lan
 LandIs tlens trees raws q u (There slot) l = (slot < 64) × (l ≡ there (tree_of 20 tlens trees slot))
 LandIs tlens trees raws q u Fresh l = l ≡ lands [] (plus_tree q [] u)
 LandIs tlens trees raws q u (Load r) l = (t : Tree) × RawIs raws r t × (l ≡ lands t (plus_tree q t u))
-LandIs tlens trees raws q u (Halt code) l = l ≡ halts (codeNumber code)
+LandIs tlens trees raws q u (Halt code) l = l ≡ halts (code_number code)
 
 pub record LandedAs (x : Landing) (n : ℕ) (u : Counts) (g : MeasureStep) : Type 0 where
   pub is : (tlens trees : List ℕ) (raws q : Bytes) (l : measure.Landing) → n ≡ length q → LandIs tlens trees raws q u x l → StepIs tlens trees raws (λ next. on_landing next u l) g

@@ -8,7 +8,7 @@ use Rattle.model.specs.Lookup as model
 use Rattle.names.specs.Answers.{entry}
 use Rattle.store_slots.specs.View.{slots_of, gather}
 use Rattle.editor_terms.specs.Ids.{id_bytes}
-use Rattle.editor_terms.specs.Answers.{codeNumber}
+use Rattle.editor_terms.specs.Answers.{code_number}
 use Rattle.editor_walk.specs.declared.look.Looked.{Looked}
 use Rattle.editor_walk.specs.declared.look.Looked.TheVariants.{Found, Missing, Refused}
 use Rattle.editor_walk.specs.declared.look.LookStep.{LookStep}
@@ -18,7 +18,7 @@ use Rattle.editor_walk.specs.declared.look.LookStep.TheVariants.{Over, In}
 abbrev pub looked_as : Bytes → Looked → model.Looked
 looked_as n (Found kind id) = model.found (entry kind n (id_bytes id))
 looked_as n Missing = model.missing
-looked_as n (Refused code) = model.refusal (codeNumber code)
+looked_as n (Refused code) = model.refusal (code_number code)
 
 -- what the model's step gives at the name n in the tree t, with q the path below, from what the rest of the lookup gives
 abbrev pub step_look : List ℕ → List Bytes → Tree → Bytes → Bytes → Bool → List Bytes → model.Looked → model.Looked

@@ -12,7 +12,7 @@ use Rattle.model.specs.Editor.{Editor as Model}
 use Rattle.model.specs.Calls.{Answer as Answered}
 use Rattle.store_slots.specs.declared.Record.{Record}
 use Rattle.store_slots.specs.View.{view_of, Laid, Used, path_of, SameWrite}
-use Rattle.editor_terms.specs.Answers.{codeNumber}
+use Rattle.editor_terms.specs.Answers.{code_number}
 use Rattle.editor_terms.specs.Edits.{changed}
 use Rattle.editor_terms.specs.declared.edit.Turn.{Turn}
 use Rattle.editor_terms.specs.declared.edit.Turn.TheVariants.{Stop, Cut, Put, Down}
@@ -47,13 +47,13 @@ abbrev pub LandLeaves : Bytes → Bytes → Cache → Cache → Landing → Bool
 LandLeaves raws q c d (There slot) going code = (going ≡ true) × (d ≡ c)
 LandLeaves raws q c d Fresh going code = (going ≡ true) × (d ≡ put at (q ↝ []) c)
 LandLeaves raws q c d (Load x) going code = (going ≡ true) × ((t : Tree) → RawIs raws x t → d ≡ put at (q ↝ t) c)
-LandLeaves raws q c d (Halt k) going code = (going ≡ false) × (code ≡ codeNumber k) × (d ≡ c)
+LandLeaves raws q c d (Halt k) going code = (going ≡ false) × (code ≡ code_number k) × (d ≡ c)
 
 -- the walk went down to what was found at q
 pub record Descended (r₀ : Record) (raws q : Bytes) (c : Cache) (x : Landing) (s : Step) (plens paths tlens trees : List ℕ) : Type 0 where
   pub stand : Standing r₀ s.ed plens paths tlens trees
-  pub leaves : LandLeaves raws q c (view_of 20 s.ed plens paths tlens trees) x s.going (codeNumber s.code)
-  pub done : s.going ≡ true → codeNumber s.code ≡ 0
+  pub leaves : LandLeaves raws q c (view_of 20 s.ed plens paths tlens trees) x s.going (code_number s.code)
+  pub done : s.going ≡ true → code_number s.code ≡ 0
   pub slot : s.going ≡ true → Used s.ed s.slot × (path_of plens paths s.slot ≡ q)
 
 -- the model's step down to q, and its whole step at the name n of the tree at p, from the rest of the walk
@@ -71,15 +71,15 @@ pub record Fitting (m : (Cache → Walked) → Walked) : Type 0 where
 -- the step m was made: the walk ended with the number and the cache; or the rest of it decides, from the slot of q
 pub record SteppedAs (r₀ : Record) (m : (Cache → Walked) → Walked) (q : Bytes) (s : Step) (plens paths tlens trees : List ℕ) : Type 0 where
   pub stand : Standing r₀ s.ed plens paths tlens trees
-  pub stop : s.going ≡ false → (next : Cache → Walked) → ((m next).code ≡ codeNumber s.code) × ((m next).now ≡ view_of 20 s.ed plens paths tlens trees)
+  pub stop : s.going ≡ false → (next : Cache → Walked) → ((m next).code ≡ code_number s.code) × ((m next).now ≡ view_of 20 s.ed plens paths tlens trees)
   pub on : s.going ≡ true → (next : Cache → Walked) → ((m next).code ≡ (next (view_of 20 s.ed plens paths tlens trees)).code) × ((m next).now ≡ (next (view_of 20 s.ed plens paths tlens trees)).now)
       × ((m next).kept ≡ true → (next (view_of 20 s.ed plens paths tlens trees)).kept ≡ true)
-  pub done : s.going ≡ true → codeNumber s.code ≡ 0
+  pub done : s.going ≡ true → code_number s.code ≡ 0
   pub slot : s.going ≡ true → Used s.ed s.slot × (path_of plens paths s.slot ≡ q)
 
 -- the whole walk was made
 pub record WalkedAs (r₀ : Record) (w : Walked) (a : Answer) (plens paths tlens trees : List ℕ) : Type 0 where
-  pub code : codeNumber a.code ≡ w.code
+  pub code : code_number a.code ≡ w.code
   pub now : view_of 20 a.ed plens paths tlens trees ≡ w.now
   pub stand : Standing r₀ a.ed plens paths tlens trees
 
@@ -89,7 +89,7 @@ editor_at c = record { cached = c; writing = none }
 
 -- the call was settled as the model says, and number 5 left every byte as it was
 pub record SettledAs (r₀ : Record) (plens₀ paths₀ tlens₀ trees₀ : List ℕ) (m : Answered) (a : Answer) (plens paths tlens trees : List ℕ) : Type 0 where
-  pub code : codeNumber a.code ≡ m.code
+  pub code : code_number a.code ≡ m.code
   pub now : editor_at (view_of 20 a.ed plens paths tlens trees) ≡ m.editor
   pub stand : Standing r₀ a.ed plens paths tlens trees
-  pub same : codeNumber a.code ≡ 5 → (a.ed ≡ r₀) × (plens ≡ plens₀) × (paths ≡ paths₀) × (tlens ≡ tlens₀) × (trees ≡ trees₀)
+  pub same : code_number a.code ≡ 5 → (a.ed ≡ r₀) × (plens ≡ plens₀) × (paths ≡ paths₀) × (tlens ≡ tlens₀) × (trees ≡ trees₀)

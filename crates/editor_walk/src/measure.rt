@@ -9,7 +9,7 @@ ghost use Rattle.model.specs.Table.{good_table};
 ghost use Rattle.model.specs.Measure.{within as withinLimits, measure as measured};
 ghost use Rattle.store_runs.specs.Runs.{Sound};
 ghost use Rattle.store_slots.specs.View.{view_of, cached_of, Laid, Used, path_of};
-ghost use Rattle.editor_terms.specs.Answers.{codeNumber};
+ghost use Rattle.editor_terms.specs.Answers.{code_number};
 ghost use Rattle.editor_terms.specs.Edits.{as_edit, wanted_by};
 ghost use Rattle.editor_terms.specs.Objects.{table_of};
 ghost use Rattle.editor_walk.specs.Counted.{counts_as};
@@ -65,7 +65,7 @@ fn seen_at(ed: Record, tlens: &[u64], trees: &[u8], raws: &[u8], level: Level, n
 
 // A step that ends the walk with a number.
 fn ended(code: Code, kept: bool, u: Counts) -> MeasureStep
-    ensures { EndsAs (codeNumber code) kept result }
+    ensures { EndsAs (code_number code) kept result }
 {
     MeasureStep {
         code,

@@ -34,7 +34,7 @@ use Rattle.store_trees.proofs.Reading.{readable}
 use Rattle.editor.proofs.LookLaws.{front_laid}
 use Rattle.store_check.specs.Decides.{Decides}
 use Rattle.store_check.proofs.Deciding as deciding
-use Rattle.editor_terms.specs.Answers.{codeNumber}
+use Rattle.editor_terms.specs.Answers.{code_number}
 use Rattle.editor_terms.specs.declared.code.Code.TheVariants.{Done, NoWriteOpen, OutputShort, StoreDamaged}
 use Rattle.editor_terms.specs.declared.code.Code.{Code}
 use Rattle.editor.specs.Lent.{Lent, Good, viewed}
@@ -122,14 +122,14 @@ small unopened = omega arith
 
 module _ (s : Lent) (out : Bytes) (code : Code) (n : ℕ) (place : Cursor) where
   pub damaged : (b : Bool) → Decides (Good s) b → b ≡ false → Refuses StoreDamaged code n place → Requests s code n place out out
-  damaged b d e q = record { refused = λ z. (deciding.refused d e, refl, q.1, q.2); done = λ z. absurd (z (ap codeNumber q.0)) }
+  damaged b d e q = record { refused = λ z. (deciding.refused d e, refl, q.1, q.2); done = λ z. absurd (z (ap code_number q.0)) }
 
   pub none_open : Good s → s.ed.«open» ≡ 0 → Refuses NoWriteOpen code n place → Requests s code n place out out
   none_open g e q =
       let u : show (length out) (viewed s) ≡ unopened = show_none (length out) s.ed.«open» (viewed s).cached _ _ _ e in
       let w : Shows (λ m. show m (viewed s)) NoWriteOpen 0 out out = record { is = sym u; rest = refl; kept = λ z. refl; number = sym (ap shown_number u); long = sym (ap shown_length u) } in
       record {
-        refused = λ z. absurd (omega (arith, z, ap codeNumber q.0));
+        refused = λ z. absurd (omega (arith, z, ap code_number q.0));
         done = λ z. (
           g,
           subst (λ (x : Code). Shows (λ m. show m (viewed s)) x n out out) (sym q.0) (subst (λ (x : ℕ). Shows (λ m. show m (viewed s)) NoWriteOpen x out out) (sym q.1) w),

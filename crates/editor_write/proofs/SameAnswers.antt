@@ -9,7 +9,7 @@ use lib.Dec.{eqb}
 use lib.ListN.{length, take, drop, take-append-drop}
 use Rattle.model.specs.Bytes.{Bytes}
 use Rattle.model.specs.Write.{Shown, shown, short, unopened, show}
-use Rattle.editor_terms.specs.Answers.{codeNumber}
+use Rattle.editor_terms.specs.Answers.{code_number}
 use Rattle.editor_terms.specs.declared.code.Code.{Code}
 use Rattle.editor_terms.specs.declared.code.Code.TheVariants.{Done, EmptyComponent, TreeNotFound, TreeDamaged, NotALeaf, NoRoom, PathRefused, BadTable, CursorStale, WriteOpen, NoWriteOpen, OutputShort, BadRoot, StoreDamaged}
 use Rattle.editor.specs.Lent.{Lent, viewed, Still}
@@ -39,7 +39,7 @@ code_of n m =
     (cond (eqb n 11) (OutputShort m)
     (cond (eqb n 12) BadRoot StoreDamaged))))))))))))
 
-coded : (c : Code) (n : ℕ) (out : Bytes) → code_of (codeNumber c) (needed (shown_as c n out)) ≡ c
+coded : (c : Code) (n : ℕ) (out : Bytes) → code_of (code_number c) (needed (shown_as c n out)) ≡ c
 coded Done n out = refl
 coded EmptyComponent n out = refl
 coded TreeNotFound n out = refl
@@ -55,13 +55,13 @@ coded (OutputShort m) n out = refl
 coded BadRoot n out = refl
 coded StoreDamaged n out = refl
 
-same_code : (c c' : Code) (n n' : ℕ) (out out' : Bytes) → codeNumber c ≡ codeNumber c' → shown_as c n out ≡ shown_as c' n' out' → c ≡ c'
+same_code : (c c' : Code) (n n' : ℕ) (out out' : Bytes) → code_number c ≡ code_number c' → shown_as c n out ≡ shown_as c' n' out' → c ≡ c'
 same_code c c' n n' out out' e f = sym (coded c n out) ∙ ap₂ code_of e (ap needed f) ∙ coded c' n' out'
 
-pub zero_code : (c : Code) → codeNumber c ≡ 0 → c ≡ Done
+pub zero_code : (c : Code) → code_number c ≡ 0 → c ≡ Done
 zero_code c e = sym (coded c 0 []) ∙ ap (λ (k : ℕ). code_of k (needed (shown_as c 0 []))) e
 
-last_code : (c : Code) → codeNumber c ≡ 13 → c ≡ StoreDamaged
+last_code : (c : Code) → code_number c ≡ 13 → c ≡ StoreDamaged
 last_code c e = sym (coded c 0 []) ∙ ap (λ (k : ℕ). code_of k (needed (shown_as c 0 []))) e
 
 -- ---- what is shown decides the output
@@ -93,7 +93,7 @@ output_of (short m) out = out
 output_of unopened out = out
 
 module _ (c : Code) (n : ℕ) (before after : Bytes) where
-  output_is : (x : Shown) → shown_as c n after ≡ x → drop n after ≡ drop n before → (Still (codeNumber c) → after ≡ before) → codeNumber c ≡ shown_number x → n ≡ shown_length x → after ≡ output_of x before
+  output_is : (x : Shown) → shown_as c n after ≡ x → drop n after ≡ drop n before → (Still (code_number c) → after ≡ before) → code_number c ≡ shown_number x → n ≡ shown_length x → after ≡ output_of x before
   output_is (shown b) e r k m l =
       sym (take-append-drop n after)
       ∙ ap₂ (λ (x y : Bytes). x ++ y) (sym (front_shown c n after) ∙ ap (front_of (take n after)) e) (r ∙ ap (λ (j : ℕ). drop j before) l)
@@ -109,20 +109,20 @@ pub record Same (c : Code) (n : ℕ) (p : Cursor) (out : Bytes) (c' : Code) (n' 
   pub output : out ≡ out'
 
 pub same_request : (s : Lent) (before : Bytes) (c c' : Code) (n n' : ℕ) (p p' : Cursor) (out out' : Bytes) → Requests s c n p before out → Requests s c' n' p' before out' → Same c n p out c' n' p' out'
-same_request s before c c' n n' p p' out out' r r' = go (eqb (codeNumber c) 13) refl (eqb (codeNumber c') 13) refl
+same_request s before c c' n n' p p' out out' r r' = go (eqb (code_number c) 13) refl (eqb (code_number c') 13) refl
   where
-    go : (b : Bool) → eqb (codeNumber c) 13 ≡ b → (b' : Bool) → eqb (codeNumber c') 13 ≡ b' → Same c n p out c' n' p' out'
+    go : (b : Bool) → eqb (code_number c) 13 ≡ b → (b' : Bool) → eqb (code_number c') 13 ≡ b' → Same c n p out c' n' p' out'
     go true e true e' =
-        let k = eqb-true (codeNumber c) 13 e in
-        let k' = eqb-true (codeNumber c') 13 e' in
+        let k = eqb-true (code_number c) 13 e in
+        let k' = eqb-true (code_number c') 13 e' in
         let d = r.refused k in
         let d' = r'.refused k' in
         record { code = last_code c k ∙ sym (last_code c' k'); long = d.2 ∙ sym d'.2; place = d.3 ∙ sym d'.3; output = d.1 ∙ sym d'.1 }
-    go true e false e' = absurd ((r.refused (eqb-true (codeNumber c) 13 e)).0 (r'.done (eqb-false (codeNumber c') 13 e')).0)
-    go false e true e' = absurd ((r'.refused (eqb-true (codeNumber c') 13 e')).0 (r.done (eqb-false (codeNumber c) 13 e)).0)
+    go true e false e' = absurd ((r.refused (eqb-true (code_number c) 13 e)).0 (r'.done (eqb-false (code_number c') 13 e')).0)
+    go false e true e' = absurd ((r'.refused (eqb-true (code_number c') 13 e')).0 (r.done (eqb-false (code_number c) 13 e)).0)
     go false e false e' =
-        let d = r.done (eqb-false (codeNumber c) 13 e) in
-        let d' = r'.done (eqb-false (codeNumber c') 13 e') in
+        let d = r.done (eqb-false (code_number c) 13 e) in
+        let d' = r'.done (eqb-false (code_number c') 13 e') in
         let w = d.1 in
         let w' = d'.1 in
         let x = show (length before) (viewed s) in

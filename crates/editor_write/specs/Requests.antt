@@ -4,7 +4,7 @@ use Rattle.std.proofs.Math.Option.{Option, none, some}
 use Rattle.model.specs.Bytes.{Bytes}
 use Rattle.model.specs.Editor.{Held}
 use Rattle.model.specs.Write.{Shown, shown, short, unopened, requested, show}
-use Rattle.editor_terms.specs.Answers.{codeNumber}
+use Rattle.editor_terms.specs.Answers.{code_number}
 use Rattle.editor_terms.specs.declared.code.Code.{Code}
 use Rattle.editor_terms.specs.declared.code.Code.TheVariants.{Done, EmptyComponent, TreeNotFound, TreeDamaged, NotALeaf, NoRoom, PathRefused, BadTable, CursorStale, WriteOpen, NoWriteOpen, OutputShort, BadRoot, StoreDamaged}
 use Rattle.editor.specs.Lent.{Lent, Good, viewed, Still}
@@ -50,11 +50,11 @@ place_in unopened o = []
 pub record Shows (f : ℕ → Shown) (code : Code) (n : ℕ) (before after : Bytes) : Type 0 where
   pub is : shown_as code n after ≡ f (length before)
   pub rest : drop n after ≡ drop n before
-  pub kept : Still (codeNumber code) → after ≡ before
-  pub number : codeNumber code ≡ shown_number (f (length before))
+  pub kept : Still (code_number code) → after ≡ before
+  pub number : code_number code ≡ shown_number (f (length before))
   pub long : n ≡ shown_length (f (length before))
 
 -- the request of the editor that is held, with the cursor at the tree's path: 13 is for a store that holds none; a refusal's cursor stands at the root
 pub record Requests (s : Lent) (code : Code) (n : ℕ) (place : Cursor) (before after : Bytes) : Type 0 where
-  pub refused : codeNumber code ≡ 13 → (Good s → ⊥) × (after ≡ before) × (n ≡ 0) × (place ≡ cursor_at [])
-  pub done : (codeNumber code ≡ 13 → ⊥) → Good s × Shows (λ m. show m (viewed s)) code n before after × (place ≡ cursor_at (place_in (show (length before) (viewed s)) (requested (viewed s))))
+  pub refused : code_number code ≡ 13 → (Good s → ⊥) × (after ≡ before) × (n ≡ 0) × (place ≡ cursor_at [])
+  pub done : (code_number code ≡ 13 → ⊥) → Good s × Shows (λ m. show m (viewed s)) code n before after × (place ≡ cursor_at (place_in (show (length before) (viewed s)) (requested (viewed s))))

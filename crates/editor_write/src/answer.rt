@@ -3,7 +3,7 @@ ghost use Rattle.std.specs.Prelude.{◌≡◌, List, ℕ, length};
 ghost use Rattle.model.specs.Bytes.{Bytes};
 ghost use Rattle.model.specs.Formats.{sha1};
 ghost use Rattle.model.specs.Write.{answered};
-ghost use Rattle.editor_terms.specs.Answers.{codeNumber};
+ghost use Rattle.editor_terms.specs.Answers.{code_number};
 ghost use Rattle.editor_terms.specs.Ids.{id_bytes};
 ghost use Rattle.editor.specs.Lent.{lent, Good, Does};
 ghost use Rattle.editor_write.specs.Steps.{HoldsExactly, Made};
@@ -86,7 +86,7 @@ pub(crate) fn answer_accepted(
     id: Id,
 ) -> Answer
     requires { Good (lent ed plens.old paths.old tlens.old trees.old order.old) }
-    ensures { Does (answered sha1 (id_bytes id)) (lent ed plens.old paths.old tlens.old trees.old order.old) (codeNumber result.code)
+    ensures { Does (answered sha1 (id_bytes id)) (lent ed plens.old paths.old tlens.old trees.old order.old) (code_number result.code)
         (lent result.ed plens.new paths.new tlens.new trees.new order.new) }
 {
     if ed.open == 0 {
@@ -120,7 +120,7 @@ pub fn answer(
     order: &mut [u64],
     id: Id,
 ) -> Answer
-    ensures { Does (answered sha1 (id_bytes id)) (lent ed plens.old paths.old tlens.old trees.old order.old) (codeNumber result.code)
+    ensures { Does (answered sha1 (id_bytes id)) (lent ed plens.old paths.old tlens.old trees.old order.old) (code_number result.code)
         (lent result.ed plens.new paths.new tlens.new trees.new order.new) }
 {
     if !store_check::holds::holds(ed, plens, paths, tlens, trees, order) {

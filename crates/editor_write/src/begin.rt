@@ -5,7 +5,7 @@ ghost use Rattle.model.specs.Formats.{sha1};
 ghost use Rattle.model.specs.Write.{begun};
 ghost use Rattle.store_slots.specs.View.{start_of, path_of};
 ghost use Rattle.store_taken.specs.Taken.{Cached};
-ghost use Rattle.editor_terms.specs.Answers.{codeNumber};
+ghost use Rattle.editor_terms.specs.Answers.{code_number};
 ghost use Rattle.editor.specs.Lent.{lent, Does};
 ghost use Rattle.editor_write.specs.Steps.{HoldsExactly, Made, Answers, Starts};
 
@@ -48,7 +48,7 @@ fn begin_held(
     from: u64,
 ) -> Answer
     requires { HoldsExactly (lent ed plens.old paths.old tlens.old trees.old order.old) × (ed.«open» ≡ 0) × Starts from prefix.now }
-    ensures { Answers (begun sha1 (start_of from prefix.now)) (lent ed plens.old paths.old tlens.old trees.old order.old) (codeNumber result.code)
+    ensures { Answers (begun sha1 (start_of from prefix.now)) (lent ed plens.old paths.old tlens.old trees.old order.old) (code_number result.code)
         (lent result.ed plens.new paths.new tlens.new trees.new order.new) }
 {
     match store_slots::find(ed, plens, paths, prefix) {
@@ -78,7 +78,7 @@ fn begin_from(
     from: u64,
 ) -> Answer
     requires { Starts from prefix.now }
-    ensures { Does (begun sha1 (start_of from prefix.now)) (lent ed plens.old paths.old tlens.old trees.old order.old) (codeNumber result.code)
+    ensures { Does (begun sha1 (start_of from prefix.now)) (lent ed plens.old paths.old tlens.old trees.old order.old) (code_number result.code)
         (lent result.ed plens.new paths.new tlens.new trees.new order.new) }
 {
     if !store_check::holds::holds(ed, plens, paths, tlens, trees, order) {
@@ -114,7 +114,7 @@ pub fn begin(
     trees: &mut [u8],
     order: &mut [u64],
 ) -> Answer
-    ensures { Does (begun sha1 from_root) (lent ed plens.old paths.old tlens.old trees.old order.old) (codeNumber result.code)
+    ensures { Does (begun sha1 from_root) (lent ed plens.old paths.old tlens.old trees.old order.old) (code_number result.code)
         (lent result.ed plens.new paths.new tlens.new trees.new order.new) }
 {
     begin_from(ed, plens, paths, tlens, trees, order, b"", 1)
@@ -130,7 +130,7 @@ pub fn begin_at(
     order: &mut [u64],
     prefix: &[u8],
 ) -> Answer
-    ensures { Does (begun sha1 (from_cursor prefix.now)) (lent ed plens.old paths.old tlens.old trees.old order.old) (codeNumber result.code)
+    ensures { Does (begun sha1 (from_cursor prefix.now)) (lent ed plens.old paths.old tlens.old trees.old order.old) (code_number result.code)
         (lent result.ed plens.new paths.new tlens.new trees.new order.new) }
 {
     begin_from(ed, plens, paths, tlens, trees, order, prefix, 2)

@@ -3,7 +3,7 @@ ghost use Rattle.std.specs.Prelude.{◌≡◌};
 ghost use Rattle.model.specs.Formats.{sha1};
 ghost use Rattle.model.specs.Write.{failed};
 ghost use Rattle.store_slots.specs.View.{Holds};
-ghost use Rattle.editor_terms.specs.Answers.{codeNumber};
+ghost use Rattle.editor_terms.specs.Answers.{code_number};
 ghost use Rattle.editor.specs.Lent.{lent, Does};
 ghost use Rattle.editor_write.specs.Steps.{Made};
 
@@ -39,7 +39,7 @@ pub fn fail(
     trees: &mut [u8],
     order: &[u64],
 ) -> Answer
-    ensures { Does failed (lent ed plens.old paths.old tlens.old trees.old order.now) (codeNumber result.code)
+    ensures { Does failed (lent ed plens.old paths.old tlens.old trees.old order.now) (code_number result.code)
         (lent result.ed plens.new paths.new tlens.new trees.new order.now) }
 {
     if !store_check::holds::holds(ed, plens, paths, tlens, trees, order) {

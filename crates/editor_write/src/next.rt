@@ -1,7 +1,7 @@
 // Answering the open request and reading the one that is open then, with one check of the store.
 ghost use Rattle.model.specs.Formats.{sha1};
 ghost use Rattle.model.specs.Write.{answered};
-ghost use Rattle.editor_terms.specs.Answers.{codeNumber};
+ghost use Rattle.editor_terms.specs.Answers.{code_number};
 ghost use Rattle.editor_terms.specs.Ids.{id_bytes};
 ghost use Rattle.editor.specs.Lent.{lent, Does};
 ghost use Rattle.editor_write.specs.Requests.{Requests};
@@ -30,7 +30,7 @@ pub fn answer_and_request(
     id: Id,
     out: &mut [u8],
 ) -> AnsweredAndRead
-    ensures { Does (answered sha1 (id_bytes id)) (lent ed plens.old paths.old tlens.old trees.old order.old) (codeNumber result.code)
+    ensures { Does (answered sha1 (id_bytes id)) (lent ed plens.old paths.old tlens.old trees.old order.old) (code_number result.code)
         (lent result.ed plens.new paths.new tlens.new trees.new order.new)
         × Requests (lent result.ed plens.new paths.new tlens.new trees.new order.new) result.next.code result.next.len result.next.at out.old out.new }
 {

@@ -2,7 +2,7 @@
 use mathlib.Core.Path.{◌≡◌, refl, ap}
 use Rattle.model.specs.Bytes.{Bytes}
 use Rattle.model.proofs.Basics.{none_some, some_none, some_inj}
-use Rattle.lines.specs.Answers.{valueRead, numberRead, outcome}
+use Rattle.lines.specs.Answers.{value_read, number_read, outcome}
 use Rattle.lines.specs.Places.{Part}
 use Rattle.lines.specs.Texts.{Written}
 use Rattle.lines.specs.declared.line.Value.{Value}
@@ -12,7 +12,7 @@ use Rattle.lines.specs.declared.number.Number.TheVariants as number
 use Rattle.lines.specs.declared.text.Put.{Put}
 use Rattle.lines.specs.declared.text.Put.TheVariants as put
 
-pub one_value : (a b : Value) → valueRead a ≡ valueRead b → a ≡ b
+pub one_value : (a b : Value) → value_read a ≡ value_read b → a ≡ b
 one_value (At x n) (At y m) e =
     let q = some_inj (record { at = x; len = n }) (record { at = y; len = m }) e in
     cc (ap (λ (p : Part). p.at) q, ap (λ (p : Part). p.len) q)
@@ -20,7 +20,7 @@ one_value (At x n) Broken e = some_none (record { at = x; len = n }) e
 one_value Broken (At y m) e = none_some (record { at = y; len = m }) e
 one_value Broken Broken e = refl
 
-pub one_number : (a b : Number) → numberRead a ≡ numberRead b → a ≡ b
+pub one_number : (a b : Number) → number_read a ≡ number_read b → a ≡ b
 one_number (number.Is m) (number.Is n) e = ap number.Is (some_inj m n e)
 one_number (number.Is m) number.Refused e = some_none m e
 one_number number.Refused (number.Is n) e = none_some n e

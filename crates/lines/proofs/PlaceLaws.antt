@@ -13,7 +13,7 @@ use Rattle.model.proofs.ByteLaws.{same_eq}
 use Rattle.names.specs.Places.{index_of}
 use Rattle.lines.specs.Lines.{starts}
 use Rattle.lines.specs.Places.{Part, line_len, value_at, Told, told, bind}
-use Rattle.lines.specs.Answers.{valueRead}
+use Rattle.lines.specs.Answers.{value_read}
 use Rattle.lines.specs.declared.line.Value.{Value}
 use Rattle.lines.specs.declared.line.Value.TheVariants.{At}
 
@@ -74,8 +74,8 @@ value_inside key s at {p} e = go (ltb (line_len s at) (length (drop at s))) refl
 pub from : {A B : Type 0} (f : A → B) {x y : A} {z : B} → f x ≡ z → x ≡ y → z ≡ f y
 from f e q = sym e ∙ ap f q
 
-pub inside : (key s : Bytes) (at : ℕ) {r : Value} {x n : ℕ} → valueRead r ≡ value_at key s at → r ≡ At x n → x + n < length s
-inside key s at e q = (value_inside key s at (from valueRead e q)).1
+pub inside : (key s : Bytes) (at : ℕ) {r : Value} {x n : ℕ} → value_read r ≡ value_at key s at → r ≡ At x n → x + n < length s
+inside key s at e q = (value_inside key s at (from value_read e q)).1
 
 -- What a line told comes from, and where nothing is told
 pub value_of : {A B : Type 0} (x : Option A) (f : A → Option B) (b : B) → bind x f ≡ some b → (a : A) × (x ≡ some a) × (f a ≡ some b)

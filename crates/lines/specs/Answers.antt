@@ -11,13 +11,13 @@ use Rattle.lines.specs.declared.number.Number.TheVariants as number
 use Rattle.lines.specs.declared.text.Put.{Put}
 use Rattle.lines.specs.declared.text.Put.TheVariants as put
 
-abbrev pub valueRead : Value → Option Part
-valueRead (value.At at len) = some (record { at = at; len = len })
-valueRead value.Broken = none
+abbrev pub value_read : Value → Option Part
+value_read (value.At at len) = some (record { at = at; len = len })
+value_read value.Broken = none
 
-abbrev pub numberRead : Number → Option ℕ
-numberRead (number.Is n) = some n
-numberRead number.Refused = none
+abbrev pub number_read : Number → Option ℕ
+number_read (number.Is n) = some n
+number_read number.Refused = none
 
 -- what a write gave, with the bytes afterwards
 abbrev pub outcome : Put → Bytes → Written

@@ -1,6 +1,6 @@
 // Lines of a text: a key, a value and a newline.
 ghost use Rattle.std.specs.Prelude.{◌≡◌};
-ghost use Rattle.lines.specs.Answers.{valueRead};
+ghost use Rattle.lines.specs.Answers.{value_read};
 ghost use Rattle.lines.specs.Places.{value_at};
 
 // Where a line's value stands, or that there is no such line.
@@ -12,7 +12,7 @@ pub enum Value {
 
 // Where the value of the line at a place stands, if a newline ends the line and it begins with the key.
 pub fn value_at(input: &[u8], at: usize, key: &[u8]) -> Value
-    ensures { valueRead result ≡ value_at key.now input.now at }
+    ensures { value_read result ≡ value_at key.now input.now at }
 {
     let rest = names::part::after(input, at);
     let n = names::path::index_of(rest, 10);

@@ -1,6 +1,6 @@
 // Numbers in decimal, without leading zeros.
 ghost use Rattle.std.specs.Prelude.{◌≡◌, true, ◌+◌, ◌-◌, ◌*◌, ◌≤◌};
-ghost use Rattle.lines.specs.Answers.{numberRead};
+ghost use Rattle.lines.specs.Answers.{number_read};
 ghost use Rattle.lines.specs.Numbers.{is_decimal, says_after, number_of, most, capped, held};
 
 // The largest number that is told; it stands for all above it too.
@@ -34,7 +34,7 @@ fn with_digit(n: usize, b: u8) -> usize
 
 // The number that digits say, if all bytes are digits.
 fn digits_say(text: &[u8]) -> Number
-    ensures { numberRead result ≡ held (says_after 0 text.now) }
+    ensures { number_read result ≡ held (says_after 0 text.now) }
 {
     let mut i = 0;
     let mut n = 0;
@@ -51,7 +51,7 @@ fn digits_say(text: &[u8]) -> Number
 
 // The number that a text says.
 pub fn number_of(text: &[u8]) -> Number
-    ensures { numberRead result ≡ held (number_of text.now) }
+    ensures { number_read result ≡ held (number_of text.now) }
 {
     if text.len() == 0 {
         return Number::Refused;

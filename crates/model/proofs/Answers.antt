@@ -31,84 +31,84 @@ unfolding is_tree null good_name well_formed octal mode_of raw_entry name_from g
 computing = tt
 
 -- The twelve cases marked [T]
-pub the-cases : map comes cases ≡ map (λ c. c.want) cases
+pub the_cases : map comes cases ≡ map (λ c. c.want) cases
 unfolding computing cases
-the-cases = refl
+the_cases = refl
 
 -- The edge lines: names of 255 and 256 bytes; paths of 1,024 and 1,025; below a prefix of 1,000, paths of 23 and 24; the 65th tree
-pub the-edges : map answers (names ++ paths ++ prefixes ++ trees) ≡ map (λ e. e.want) (names ++ paths ++ prefixes ++ trees)
+pub the_edges : map answers (names ++ paths ++ prefixes ++ trees) ≡ map (λ e. e.want) (names ++ paths ++ prefixes ++ trees)
 unfolding computing answers names paths prefixes trees
-the-edges = refl
+the_edges = refl
 
 -- The other limits. 1,023 entries and one more are 1,024
-pub entries-full : start_then (ramp 1023 0) (up (98 ∷ []) ∷ up (99 ∷ []) ∷ up (98 ∷ []) ∷ []) ≡ 0 ∷ 5 ∷ 0 ∷ []
+pub entries_full : start_then (ramp 1023 0) (up (98 ∷ []) ∷ up (99 ∷ []) ∷ up (98 ∷ []) ∷ []) ≡ 0 ∷ 5 ∷ 0 ∷ []
 unfolding computing start_then
-entries-full = refl
+entries_full = refl
 
 -- 64 names of 255 bytes and one of 64 are 16,384 bytes
-pub names-full : root_then (long 64 0) (up (replicate 64 98) ∷ up (99 ∷ []) ∷ []) ≡ 0 ∷ 0 ∷ 5 ∷ []
+pub names_full : root_then (long 64 0) (up (replicate 64 98) ∷ up (99 ∷ []) ∷ []) ≡ 0 ∷ 0 ∷ 5 ∷ []
 unfolding computing root_then
-names-full = refl
+names_full = refl
 
 -- three chains of 255, 511, 767 and 1,022 bytes, then 255 and 272: 8,192 path bytes
-pub paths-full : root_then [] (up (chain 65) ∷ up (chain 66) ∷ up (chain 67) ∷ up ((68 ∷ replicate 254 97) ++ (47 ∷ replicate 16 97) ++ (47 ∷ 102 ∷ [])) ∷ up (69 ∷ 47 ∷ 102 ∷ []) ∷ []) ≡ 0 ∷ 0 ∷ 0 ∷ 0 ∷ 0 ∷ 5 ∷ []
+pub paths_full : root_then [] (up (chain 65) ∷ up (chain 66) ∷ up (chain 67) ∷ up ((68 ∷ replicate 254 97) ++ (47 ∷ replicate 16 97) ++ (47 ∷ 102 ∷ [])) ∷ up (69 ∷ 47 ∷ 102 ∷ []) ∷ []) ≡ 0 ∷ 0 ∷ 0 ∷ 0 ∷ 0 ∷ 5 ∷ []
 unfolding computing root_then
-paths-full = refl
+paths_full = refl
 
 -- The traps, one equation over their list
-pub the-traps : map comes traps ≡ map (λ c. c.want) traps
+pub the_traps : map comes traps ≡ map (λ c. c.want) traps
 unfolding computing traps
-the-traps = refl
+the_traps = refl
 
 -- of room: the numbers alone
-pub the-full : map numbers_of full ≡ map (λ t. t.want) full
+pub the_full : map numbers_of full ≡ map (λ t. t.want) full
 unfolding computing numbers_of full
-the-full = refl
+the_full = refl
 
 -- Lookups: an entry, nothing, or a refusal
-pub the-lookups : map (λ (p : Bytes). looked [] p three) ([] ∷ (97 ∷ []) ∷ (97 ∷ 47 ∷ 98 ∷ []) ∷ (97 ∷ 47 ∷ []) ∷ (99 ∷ []) ∷ (99 ∷ 47 ∷ 98 ∷ []) ∷ (100 ∷ 47 ∷ 98 ∷ []) ∷ (47 ∷ 97 ∷ []) ∷ (0 ∷ []) ∷ [])
+pub the_lookups : map (λ (p : Bytes). looked [] p three) ([] ∷ (97 ∷ []) ∷ (97 ∷ 47 ∷ 98 ∷ []) ∷ (97 ∷ 47 ∷ []) ∷ (99 ∷ []) ∷ (99 ∷ 47 ∷ 98 ∷ []) ∷ (100 ∷ 47 ∷ 98 ∷ []) ∷ (47 ∷ 97 ∷ []) ∷ (0 ∷ []) ∷ [])
     ≡ missing ∷ found (folder (97 ∷ []) Z) ∷ found (file (98 ∷ [])) ∷ missing ∷ found (folder (99 ∷ []) X) ∷ missing ∷ missing ∷ missing ∷ refusal 6 ∷ []
 unfolding computing
-the-lookups = refl
+the_lookups = refl
 
-pub below-a-cursor : looked (97 ∷ []) (98 ∷ []) three ≡ found (file (98 ∷ []))
+pub below_a_cursor : looked (97 ∷ []) (98 ∷ []) three ≡ found (file (98 ∷ []))
 unfolding computing
-below-a-cursor = refl
+below_a_cursor = refl
 
-pub stale-cursor : looked (99 ∷ []) (98 ∷ []) three ≡ refusal 8
+pub stale_cursor : looked (99 ∷ []) (98 ∷ []) three ≡ refusal 8
 unfolding computing
-stale-cursor = refl
+stale_cursor = refl
 
-pub open-write : looked [] (97 ∷ []) (begun sha1 from_root three).editor ≡ refusal 9
+pub open_write : looked [] (97 ∷ []) (begun sha1 from_root three).editor ≡ refusal 9
 unfolding computing
-open-write = refl
+open_write = refl
 
 -- the first request is `a`: 29 bytes; with room for 28 the answer is the length needed, and with none open nothing is shown
-pub shown-or-short : map (λ (n : ℕ). show n (begun sha1 from_root three).editor) (28 ∷ 29 ∷ [])
+pub shown_or_short : map (λ (n : ℕ). show n (begun sha1 from_root three).editor) (28 ∷ 29 ∷ [])
     ≡ short 29 ∷ shown (49 ∷ 48 ∷ 48 ∷ 54 ∷ 52 ∷ 52 ∷ 32 ∷ 98 ∷ 0 ∷ B) ∷ []
 unfolding computing
-shown-or-short = refl
+shown_or_short = refl
 
 pub none_open : show 45056 three ≡ unopened
 unfolding computing
 none_open = refl
 
 -- The small program's example: for one upsert of `a/b` the requests are `a`, then the root with the id that was answered for `a`
-pub the-small-program : written sha1 (no# 1 ∷ no# 2 ∷ []) from_root (act no_table (up (97 ∷ 47 ∷ 98 ∷ [])) (root_only [])).editor
+pub the_small_program : written sha1 (no# 1 ∷ no# 2 ∷ []) from_root (act no_table (up (97 ∷ 47 ∷ 98 ∷ [])) (root_only [])).editor
     ≡ (97 ∷ [], 49 ∷ 48 ∷ 48 ∷ 54 ∷ 52 ∷ 52 ∷ 32 ∷ 98 ∷ 0 ∷ B) ∷ ([], 52 ∷ 48 ∷ 48 ∷ 48 ∷ 48 ∷ 32 ∷ 97 ∷ 0 ∷ no# 1) ∷ []
 unfolding computing written
-the-small-program = refl
+the_small_program = refl
 
 -- Every editor on the way of every case and trap is valid
-pub the-cases-valid : all_valid (cases ++ traps) ≡ true
+pub the_cases_valid : all_valid (cases ++ traps) ≡ true
 unfolding computing all_valid cases traps
-the-cases-valid = refl
+the_cases_valid = refl
 
 -- Ids of 32 bytes: nothing but the format differs. `d` is loaded from the table, and `g` put beside its `f`
-pub loads-wide : (edited sha256
+pub loads_wide : (edited sha256
     (record { ids = replicate 32 9; ends = length (raw_tree (record { mode = BLOB; name = 102 ∷ []; id = replicate 32 17 } ∷ [])) ∷ []; raws = raw_tree (record { mode = BLOB; name = 102 ∷ []; id = replicate 32 17 } ∷ []) })
     (upsert BLOB (replicate 32 18)) false [] (100 ∷ 47 ∷ 103 ∷ []) (root_only (record { mode = TREE; name = 100 ∷ []; id = replicate 32 9 } ∷ []))).editor.cached
     ≡ [] ↝ (record { mode = TREE; name = 100 ∷ []; id = replicate 32 9 } ∷ [])
     ∷ (100 ∷ []) ↝ (record { mode = BLOB; name = 102 ∷ []; id = replicate 32 17 } ∷ record { mode = BLOB; name = 103 ∷ []; id = replicate 32 18 } ∷ []) ∷ []
 unfolding computing
-loads-wide = refl
+loads_wide = refl

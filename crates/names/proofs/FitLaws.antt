@@ -17,7 +17,7 @@ use Rattle.model.specs.Tree.{is_tree, Entry, Tree, as_kind, key, good_name, amon
 use Rattle.model.specs.Raw.{more, if_good}
 use Rattle.model.proofs.Basics.{none_some, some_inj, and_left, and_right, and_false}
 use Rattle.model.proofs.ByteLaws.{same_eq}
-use Rattle.names.specs.Answers.{asOrdering}
+use Rattle.names.specs.Answers.{as_ordering}
 use Rattle.names.specs.Check.{TreeSize, size_of, is_less, names_of, tree_among, TwinIs, well_after, plain, besides, well_past, FitsIs, check_past, Checking, Wide}
 use Rattle.names.specs.Standings.{StandsIn, StandsAs}
 use Rattle.names.specs.declared.neighbour.Standing.{Standing}
@@ -51,12 +51,12 @@ module _ {later : Option Tree} {name : Bytes} {here : Option Tree} (s : Twinning
   pub twin_damaged : {b : Bool} → here ≡ none → TwinIs name later b
   twin_damaged h = record { is = λ es p. let x = s.rest es p in none_some x.0 (sym h ∙ x.1) }
 
-  module _ {d : Entry} {there : Option Tree} (e : Begins here d there) (o : Order) (eo : asOrdering o ≡ cmp (key d) (as_kind true name)) where
-    next_one : (es : Tree) → later ≡ some es → (cs : Tree) × (there ≡ some cs) × (tree_among name es ≡ by (asOrdering o) (tree_among name cs) true false)
+  module _ {d : Entry} {there : Option Tree} (e : Begins here d there) (o : Order) (eo : as_ordering o ≡ cmp (key d) (as_kind true name)) where
+    next_one : (es : Tree) → later ≡ some es → (cs : Tree) × (there ≡ some cs) × (tree_among name es ≡ by (as_ordering o) (tree_among name cs) true false)
     unfolding tree_among
     next_one es p = go there refl
       where
-        go : (q : Option Tree) → there ≡ q → (cs : Tree) × (there ≡ some cs) × (tree_among name es ≡ by (asOrdering o) (tree_among name cs) true false)
+        go : (q : Option Tree) → there ≡ q → (cs : Tree) × (there ≡ some cs) × (tree_among name es ≡ by (as_ordering o) (tree_among name cs) true false)
         go none f = let x = s.rest es p in none_some x.0 (sym (e.is ∙ ap (more d) f) ∙ x.1)
         go (some cs) f =
             let x = s.rest es p in
@@ -64,13 +64,13 @@ module _ {later : Option Tree} {name : Bytes} {here : Option Tree} (s : Twinning
             (cs, f, x.2 ∙ ap (tree_among name) (sym g) ∙ rw eo)
 
     pub twin_less : o ≡ Less → Twinning later name there
-    twin_less f = record { rest = λ es p. let x = next_one es p in (x.0, x.1, x.2 ∙ ap (λ (q : Order). by (asOrdering q) (tree_among name x.0) true false) f) }
+    twin_less f = record { rest = λ es p. let x = next_one es p in (x.0, x.1, x.2 ∙ ap (λ (q : Order). by (as_ordering q) (tree_among name x.0) true false) f) }
 
     pub twin_equal : o ≡ Equal → TwinIs name later true
-    twin_equal f = record { is = λ es p. let x = next_one es p in sym (x.2 ∙ ap (λ (q : Order). by (asOrdering q) (tree_among name x.0) true false) f) }
+    twin_equal f = record { is = λ es p. let x = next_one es p in sym (x.2 ∙ ap (λ (q : Order). by (as_ordering q) (tree_among name x.0) true false) f) }
 
     pub twin_greater : o ≡ Greater → TwinIs name later false
-    twin_greater f = record { is = λ es p. let x = next_one es p in sym (x.2 ∙ ap (λ (q : Order). by (asOrdering q) (tree_among name x.0) true false) f) }
+    twin_greater f = record { is = λ es p. let x = next_one es p in sym (x.2 ∙ ap (λ (q : Order). by (as_ordering q) (tree_among name x.0) true false) f) }
 
 -- The check follows the entries: a tree is well formed exactly if its entries may follow nothing.
 six_tests : (a b c d e f g : Bool) → b ≡ true → ((a && b && c) && (d && e) && (f && g)) ≡ (a && (d && (f && (c && e && g))))

@@ -10,7 +10,7 @@ use Rattle.model.specs.Bytes.{Bytes}
 use Rattle.model.specs.Tree.{Mode, TREE, BLOB, EXEC, LINK, COMMIT, Entry, Tree}
 use Rattle.model.specs.Raw.{octal, raw_entry, raw_tree}
 use Rattle.model.proofs.ValidLaws.{octal_length}
-use Rattle.names.specs.Answers.{asMode, entry}
+use Rattle.names.specs.Answers.{as_mode, entry}
 use Rattle.names_compact.specs.Compact.{kind_of, unpack, Run, blank, entry_at, offset}
 use Rattle.names.specs.Splice.{splice}
 use Rattle.names.specs.declared.mode.EntryKind.{EntryKind}
@@ -119,5 +119,5 @@ module _ {w : ℕ} {b d₀ d : Bytes} {a i to : ℕ} (s : Writing w b d₀ d a i
           (wrote_entry (take i (unpack w b)) s.wrote (entry_at w b i) write_fits e);
     }
 
-pub same_parts : (k : EntryKind) {n i : Bytes} (e : Entry) → asMode k ≡ e.mode → n ≡ e.name → i ≡ e.id → entry k n i ≡ e
+pub same_parts : (k : EntryKind) {n i : Bytes} (e : Entry) → as_mode k ≡ e.mode → n ≡ e.name → i ≡ e.id → entry k n i ≡ e
 same_parts k e m n i = λ j. record { mode = m j; name = n j; id = i j }

@@ -12,7 +12,7 @@ use Rattle.model.specs.Tree.{Entry, Tree, good_name, good_entries, name_bytes}
 use Rattle.model.specs.Raw.{read_tree}
 use Rattle.model.proofs.Basics.{none_some, some_inj, and_left, and_right}
 use Rattle.model.proofs.RawLaws.{more_inv, well_entries, read_only}
-use Rattle.names.specs.Answers.{asMode, entryRead, checkedAs}
+use Rattle.names.specs.Answers.{as_mode, entry_read, checked_as}
 use Rattle.names.specs.Check.{TreeSize, size_of}
 use Rattle.names_compact.specs.Compact.{kind_of, packed, packed_all, Takes, PackedAs}
 use Rattle.names.specs.Places.{read_entry_at, entry_found, entries_at}
@@ -35,9 +35,9 @@ size_inv (some t) z e =
     let q = some_inj z (record { entries = length t; bytes = name_bytes t }) e in
     (t, refl, ap (λ (y : TreeSize). y.entries) q, ap (λ (y : TreeSize). y.bytes) q)
 
-pub takes_checked : {w : ℕ} {raw : Bytes} {r : Checked} → checkedAs r ≡ size_of (read_tree w raw) → {entries bytes : ℕ} → r ≡ WellFormed entries bytes → (n : ℕ) → n ≡ entries * (2 + w) + bytes → Takes w raw n
+pub takes_checked : {w : ℕ} {raw : Bytes} {r : Checked} → checked_as r ≡ size_of (read_tree w raw) → {entries bytes : ℕ} → r ≡ WellFormed entries bytes → (n : ℕ) → n ≡ entries * (2 + w) + bytes → Takes w raw n
 takes_checked {w} {raw} c {entries} {bytes} e n en =
-    let (t, f, a, b) = size_inv (read_tree w raw) (record { entries = entries; bytes = bytes }) (sym (ap checkedAs e) ∙ c) in
+    let (t, f, a, b) = size_inv (read_tree w raw) (record { entries = entries; bytes = bytes }) (sym (ap checked_as e) ∙ c) in
     record { tree = t; reads = f; room = en ∙ ap (λ (k : ℕ). k * (2 + w) + bytes) a ∙ ap (λ (k : ℕ). length t * (2 + w) + k) b }
 
 -- of the tree, the entries `done` have been written to the front of d, which was d₀, and `left` stand from `at` on
@@ -77,19 +77,19 @@ module _ {w : ℕ} {raw d₀ d : Bytes} {at to : ℕ} (s : Packing w raw d₀ d 
       let q : d ≡ packed_all s.done = s.wrote.done ∙ splice_whole d₀ (packed_all s.done) (s.room ∙ ap (λ (l : Tree). length (packed_all l)) e) in
       record { is = λ t f. q ∙ ap packed_all (sym e ∙ some_inj (s.done ++ s.left) t (sym s.reads ∙ f)) }
 
-  module _ (h : at < length raw) {r : EntryRead} (er : entryRead r ≡ read_entry_at raw at w) where
+  module _ (h : at < length raw) {r : EntryRead} (er : entry_read r ≡ read_entry_at raw at w) where
     pub pack_damaged : {A : Type 0} → r ≡ Damaged → A
-    pack_damaged e = none_some s.left (sym (entries_damaged raw w at h (sym er ∙ ap entryRead e)) ∙ s.rest)
+    pack_damaged e = none_some s.left (sym (entries_damaged raw w at h (sym er ∙ ap entry_read e)) ∙ s.rest)
 
     module _ {kind : EntryKind} {name_at n id next : ℕ} (e : r ≡ EntryAt kind name_at n id next) where
       abbrev x : Entry
       x = entry_found raw w (found_of kind name_at n id next)
 
       pub pack_reach : Reach raw w at (found_of kind name_at n id next)
-      pack_reach = reach raw w (sym er ∙ ap entryRead e)
+      pack_reach = reach raw w (sym er ∙ ap entry_read e)
 
       others : (xs : Tree) × (entries_at raw w next ≡ some xs) × (x ∷ xs ≡ s.left)
-      others = more_inv x (entries_at raw w next) s.left (sym (entries_entry raw w at h (sym er ∙ ap entryRead e)) ∙ s.rest)
+      others = more_inv x (entries_at raw w next) s.left (sym (entries_entry raw w at h (sym er ∙ ap entry_read e)) ∙ s.rest)
 
       good_all : good_entries w (x ∷ others.0) ≡ true
       good_all = ap (good_entries w) others.2 ∙ s.good
@@ -106,7 +106,7 @@ module _ {w : ℕ} {raw d₀ d : Bytes} {at to : ℕ} (s : Packing w raw d₀ d 
           let q = ap length packed_more ∙ length-append (packed_all s.done) (packed x) in
           omega (arith, p, q, s.room, s.wrote.next, s.wrote.long)
 
-      module _ {b : ℕ} {i l : Bytes} (eb : b ≡ kind_of (asMode kind)) (ei : i ≡ take w (drop id raw)) (el : l ≡ take n (drop name_at raw)) where
+      module _ {b : ℕ} {i l : Bytes} (eb : b ≡ kind_of (as_mode kind)) (ei : i ≡ take w (drop id raw)) (el : l ≡ take n (drop name_at raw)) where
         is_packed : b ∷ length l ∷ (i ++ l) ≡ packed x
         is_packed = rw (eb, ei, el)
 

@@ -5,7 +5,7 @@ ghost use Rattle.model.specs.Map.{rising};
 ghost use Rattle.model.specs.Raw.{raw_entry, raw_tree};
 ghost use Rattle.model.specs.Tree.{as_kind, key};
 ghost use Rattle.model.specs.Search.{searched};
-ghost use Rattle.names.specs.Answers.{asMode, asOrdering};
+ghost use Rattle.names.specs.Answers.{as_mode, as_ordering};
 ghost use Rattle.names_compact.specs.Compact.{kind_of, mode_at, unpack, Run, offset, entry_at, Tells, Finds, begun, Takes, PackedAs};
 ghost use Rattle.names.specs.Splice.{splice};
 
@@ -15,7 +15,7 @@ use names::raw::EntryRead;
 
 // The byte of a kind.
 pub fn kind_byte(kind: EntryKind) -> u8
-    ensures { result ≡ kind_of (asMode kind) }
+    ensures { result ≡ kind_of (as_mode kind) }
 {
     match kind {
         EntryKind::Tree => 0,
@@ -28,7 +28,7 @@ pub fn kind_byte(kind: EntryKind) -> u8
 
 // The kind that a byte stands for.
 pub fn kind_of(byte: u8) -> EntryKind
-    ensures { asMode result ≡ mode_at byte }
+    ensures { as_mode result ≡ mode_at byte }
 {
     match byte {
         0 => EntryKind::Tree,
@@ -90,7 +90,7 @@ pub fn name_at<'a>(tree: &'a [u8], width: usize, at: usize, i: usize) -> &'a [u8
 // The order of a name and the entry i, which starts at `at`.
 pub fn order_at(tree: &[u8], width: usize, at: usize, i: usize, name: &[u8], as_tree: bool) -> Order
     requires { Run width tree.now × (width ≤ 64) × (at ≡ offset width tree.now i) × (i < length (unpack width tree.now)) }
-    ensures { asOrdering result ≡ cmp (as_kind as_tree name.now) (key (entry_at width tree.now i)) }
+    ensures { as_ordering result ≡ cmp (as_kind as_tree name.now) (key (entry_at width tree.now i)) }
 {
     let other = name_at(tree, width, at, i);
     let is_tree = tree[at] == 0;
@@ -203,7 +203,7 @@ pub fn id_at<'a>(tree: &'a [u8], width: usize, at: usize, i: usize) -> &'a [u8]
 // The mode of the entry i, which starts at `at`.
 pub fn entry_kind(tree: &[u8], width: usize, at: usize, i: usize) -> EntryKind
     requires { Run width tree.now × (at ≡ offset width tree.now i) × (i < length (unpack width tree.now)) }
-    ensures { asMode result ≡ (entry_at width tree.now i).mode }
+    ensures { as_mode result ≡ (entry_at width tree.now i).mode }
 {
     kind_of(kind_at(tree, width, at, i))
 }

@@ -1,6 +1,6 @@
 // Whether bytes are a well-formed tree in compact form.
 ghost use Rattle.std.specs.Prelude.{◌≡◌, true, ◌+◌, ◌≤◌, ◌<◌, eqb, length, take, drop, get_or};
-ghost use Rattle.names.specs.Answers.{checkedAs};
+ghost use Rattle.names.specs.Answers.{checked_as};
 ghost use Rattle.names.specs.Check.{size_of, TwinIs, Lower, plain, FitsIs};
 ghost use Rattle.names.specs.Eight.{number};
 ghost use Rattle.names_compact.specs.Judge.{end_as, end_at, held_at, compact_tree, name_held, tree_before, Behind, Reached};
@@ -247,7 +247,7 @@ fn head(tree: &[u8], width: usize, at: usize, next: usize) -> u64
 
 // Whether the bytes are a well-formed tree in compact form, and how many entries and bytes of names it then has.
 pub fn judge(tree: &[u8], width: usize) -> Checked
-    ensures { checkedAs result ≡ size_of (compact_tree width tree.now) }
+    ensures { checked_as result ≡ size_of (compact_tree width tree.now) }
 {
     let mut far = Far {
         at: 0,

@@ -12,16 +12,16 @@ use Rattle.model.specs.Raw.{raw_tree}
 use Rattle.model.specs.Tree.{name_bytes}
 use Rattle.model.proofs.Basics.{and_false}
 use Rattle.names.specs.Splice.{splice}
-use Rattle.names_salvage.specs.Answers.{Holds, mendedOf, PassedTo, Passed}
+use Rattle.names_salvage.specs.Answers.{Holds, mended_of, PassedTo, Passed}
 use Rattle.names_salvage.specs.Mending.{Mended, sorted, within, refusal, told, mended, salvaged}
 use Rattle.names_salvage.specs.Pieces.{pieces_of}
 use Rattle.names_salvage.specs.declared.pass.Tally.{Tally}
 
 module _ {raw : Bytes} {w : ℕ} {table : List ℕ} {t : Tally} (p : Passed raw w table t) where
-  pub over_limit : t.over ≡ true → within (mendedOf w raw).kept ≡ false
+  pub over_limit : t.over ≡ true → within (mended_of w raw).kept ≡ false
   over_limit e = subst (λ (b : Bool). PassedTo b raw w table t) e p.is
 
-  pub held : t.over ≡ false → Holds raw w table t (mendedOf w raw)
+  pub held : t.over ≡ false → Holds raw w table t (mended_of w raw)
   held e = (subst (λ (b : Bool). PassedTo b raw w table t) e p.is).0
 
   pub left_over : t.over ≡ false → length (pieces_of w raw).left ≡ length raw - t.at
@@ -48,20 +48,20 @@ told_over : (m : Mended) (cut : ℕ) (d : Bytes) → within m.kept ≡ false →
 unfolding told
 told_over m cut d e = sym (rw e)
 
-pub mended_over : (raw : Bytes) (w : ℕ) (d : Bytes) → within (mendedOf w raw).kept ≡ false → refusal 5 0 d ≡ mended w raw d
+pub mended_over : (raw : Bytes) (w : ℕ) (d : Bytes) → within (mended_of w raw).kept ≡ false → refusal 5 0 d ≡ mended w raw d
 unfolding mended
-mended_over raw w d e = told_over (mendedOf w raw) (length (pieces_of w raw).left) d e
+mended_over raw w d e = told_over (mended_of w raw) (length (pieces_of w raw).left) d e
 
-pub mended_short : {raw : Bytes} {w : ℕ} {table : List ℕ} {t : Tally} → Holds raw w table t (mendedOf w raw) → (d : Bytes) → length d < t.len → refusal 11 t.len d ≡ mended w raw d
+pub mended_short : {raw : Bytes} {w : ℕ} {table : List ℕ} {t : Tally} → Holds raw w table t (mended_of w raw) → (d : Bytes) → length d < t.len → refusal 11 t.len d ≡ mended w raw d
 unfolding mended
 mended_short {raw} {w} h d g = told_short h (length (pieces_of w raw).left) d g
 
-pub mended_done : {raw : Bytes} {w : ℕ} {table : List ℕ} {t : Tally} → Holds raw w table t (mendedOf w raw) → length (pieces_of w raw).left ≡ length raw - t.at → (d d' : Bytes) → t.len ≤ length d →
-    d' ≡ splice d 0 (raw_tree (sorted (mendedOf w raw).kept)) →
+pub mended_done : {raw : Bytes} {w : ℕ} {table : List ℕ} {t : Tally} → Holds raw w table t (mended_of w raw) → length (pieces_of w raw).left ≡ length raw - t.at → (d d' : Bytes) → t.len ≤ length d →
+    d' ≡ splice d 0 (raw_tree (sorted (mended_of w raw).kept)) →
     record { code = 0; len = t.len; cut = length raw - t.at; bad_name = t.badname; bad_mode = t.badmode; double = t.double; moved = t.moved; out = d' } ≡ mended w raw d
 unfolding mended
 mended_done {raw} {w} {table} {t} h l d d' g e =
-    told_done h (length raw - t.at) d d' g e ∙ ap (λ (k : ℕ). told (mendedOf w raw) k d) (sym l)
+    told_done h (length raw - t.at) d d' g e ∙ ap (λ (k : ℕ). told (mended_of w raw) k d) (sym l)
 
 -- the width and the length
 pub odd_width : (w : ℕ) (raw d : Bytes) → (eqb w 20 || eqb w 32) ≡ false → refusal 255 0 d ≡ salvaged w raw d

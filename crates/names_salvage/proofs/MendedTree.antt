@@ -17,7 +17,7 @@ use Rattle.model.proofs.SoundTrees.{del_absent}
 use Rattle.model.proofs.WellFormedLaws.{well_with}
 use Rattle.names.specs.Check.{is_less}
 use Rattle.names.proofs.WriteLaws.{raw_snoc}
-use Rattle.names_salvage.specs.Answers.{mendedOf}
+use Rattle.names_salvage.specs.Answers.{mended_of}
 use Rattle.names_salvage.specs.Mending.{Mended, nothing, sorted, above, keep_as, mend1, mend_all}
 use Rattle.names_salvage.specs.Pieces.{Piece, piece_of, read_on, pieces_in, pieces_of, raw_piece, raw_pieces}
 use Rattle.names_salvage.proofs.KeepLaws.{sorted_with}
@@ -78,7 +78,7 @@ well_all (suc n) w s m h = go (piece_of w s) refl (λ r z i. well_all n w r z i)
     go none e ih = h
     go (some x) e ih = ih x.rest (mend1 x m) (well_one w x m (piece_split w s x e).wide h)
 
-pub well : (w : ℕ) (raw : Bytes) → well_formed w (sorted (mendedOf w raw).kept) ≡ true
+pub well : (w : ℕ) (raw : Bytes) → well_formed w (sorted (mended_of w raw).kept) ≡ true
 unfolding pieces_of sorted well_formed
 well w raw = well_all (length raw) w raw nothing refl
 
@@ -94,7 +94,7 @@ unfolding mend_all
 tally_all [] m = omega arith
 tally_all (x ∷ ps) m = omega (arith, tally_all ps (mend1 x m), tally_one x m)
 
-pub adds_up : (w : ℕ) (raw : Bytes) → tally (mendedOf w raw) ≡ length (pieces_of w raw).read
+pub adds_up : (w : ℕ) (raw : Bytes) → tally (mended_of w raw) ≡ length (pieces_of w raw).read
 adds_up w raw = omega (arith, tally_all (pieces_of w raw).read nothing)
 
 -- III. The entries read and the bytes left are the input.
@@ -170,12 +170,12 @@ follows_all (x ∷ ps) m u =
     let g = follows_one x m f.before in
     record { before = g.before; grown = f.grown ∙ ap (λ (l : Bytes). l ++ raw_pieces ps) g.grown ∙ append_assoc (raw_tree (sorted m.kept)) (raw_piece x) (raw_pieces ps) }
 
-pub only_well : (w : ℕ) (raw : Bytes) → Untouched (mendedOf (suc w) raw) → length (pieces_of (suc w) raw).left ≡ 0 → (raw_tree (sorted (mendedOf (suc w) raw).kept) ≡ raw) × (read_tree (suc w) raw ≡ some (sorted (mendedOf (suc w) raw).kept))
+pub only_well : (w : ℕ) (raw : Bytes) → Untouched (mended_of (suc w) raw) → length (pieces_of (suc w) raw).left ≡ 0 → (raw_tree (sorted (mended_of (suc w) raw).kept) ≡ raw) × (read_tree (suc w) raw ≡ some (sorted (mended_of (suc w) raw).kept))
 unfolding sorted
-only_well w raw u l = (same, ap (read_tree (suc w)) (sym same) ∙ read_back w (sorted (mendedOf (suc w) raw).kept) (well (suc w) raw))
+only_well w raw u l = (same, ap (read_tree (suc w)) (sym same) ∙ read_back w (sorted (mended_of (suc w) raw).kept) (well (suc w) raw))
   where
     none_left : (pieces_of (suc w) raw).left ≡ []
     none_left = no_bytes (pieces_of (suc w) raw).left (omega (arith, l))
 
-    same : raw_tree (sorted (mendedOf (suc w) raw).kept) ≡ raw
+    same : raw_tree (sorted (mended_of (suc w) raw).kept) ≡ raw
     same = (follows_all (pieces_of (suc w) raw).read nothing u).grown ∙ sym (append-nil (raw_pieces (pieces_of (suc w) raw).read)) ∙ ap (λ (l : Bytes). raw_pieces (pieces_of (suc w) raw).read ++ l) (sym none_left) ∙ sym (bytes_all (suc w) raw)

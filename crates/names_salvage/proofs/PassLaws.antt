@@ -18,7 +18,7 @@ use Rattle.model.proofs.RawLaws.{mode_of_lem}
 use Rattle.model.proofs.ValidLaws.{octal_length}
 use Rattle.names.specs.Places.{index_of}
 use Rattle.names.proofs.WriteLaws.{entry_long}
-use Rattle.names_salvage.specs.Answers.{StandsAt, piece_at, ReadIn, ReadAs, Enters, Holds, TurnedTo, Turned, mendedOf, PassedTo, Passed}
+use Rattle.names_salvage.specs.Answers.{StandsAt, piece_at, ReadIn, ReadAs, Enters, Holds, TurnedTo, Turned, mended_of, PassedTo, Passed}
 use Rattle.names_salvage.specs.Mending.{Mended, nothing, sorted, above, keep_as, mend1, mend_all, within}
 use Rattle.names_salvage.specs.Pieces.{Piece, Pieces, piece_of, read_on, pieces_in, pieces_of}
 use Rattle.names_salvage.specs.declared.pass.Tally.{Tally}
@@ -259,11 +259,11 @@ over_all (x ∷ ps) m e = over_all ps (mend1 x m) (still_over m.kept (mend1 x m)
 pub record Knows (raw : Bytes) (w : ℕ) (table : List ℕ) (t : Tally) : Type 0 where
   pub m : Mended
   pub holds : Holds raw w table t m
-  pub rest : mendedOf w raw ≡ mend_all (pieces_of w (drop t.at raw)).read m
+  pub rest : mended_of w raw ≡ mend_all (pieces_of w (drop t.at raw)).read m
   pub left : (pieces_of w raw).left ≡ (pieces_of w (drop t.at raw)).left
 
 abbrev pub PassingTo : Bool → Bytes → ℕ → List ℕ → Tally → Type 0
-PassingTo true raw w table t = within (mendedOf w raw).kept ≡ false
+PassingTo true raw w table t = within (mended_of w raw).kept ≡ false
 PassingTo false raw w table t = Knows raw w table t
 
 pub record Passing (raw : Bytes) (w : ℕ) (table : List ℕ) (t : Tally) : Type 0 where
@@ -319,7 +319,7 @@ pass_turn {raw} {w} {table} {t} {a} {name} {n} {next} k st {table'} {r} room u =
     ps : pieces_of w (drop t.at raw) ≡ record { read = x ∷ (pieces_of w (drop next raw)).read; left = (pieces_of w (drop next raw)).left }
     ps = pieces_some w (drop t.at raw) x st.is
 
-    whole : mendedOf w raw ≡ mend_all (pieces_of w (drop next raw)).read (mend1 x k.m)
+    whole : mended_of w raw ≡ mend_all (pieces_of w (drop next raw)).read (mend1 x k.m)
     whole = k.rest ∙ ap (λ (p : Pieces). mend_all p.read k.m) ps ∙ mend_cons x (pieces_of w (drop next raw)).read k.m
 
     go : (b : Bool) → TurnedTo b raw w table' r (mend1 x k.m) next → PassingTo b raw w table' r
@@ -347,7 +347,7 @@ pub pass_end : {raw : Bytes} {w : ℕ} {table : List ℕ} {t : Tally} → Passin
 pass_end {raw} {w} {table} {t} p o e =
     let k = knows p o in
     let ps = pieces_none w (drop t.at raw) e in
-    let all : mendedOf w raw ≡ k.m = k.rest ∙ ap (λ (z : Pieces). mend_all z.read k.m) ps ∙ mend_nil k.m in
+    let all : mended_of w raw ≡ k.m = k.rest ∙ ap (λ (z : Pieces). mend_all z.read k.m) ps ∙ mend_nil k.m in
     record { is = subst (λ (b : Bool). PassedTo b raw w table t) (sym o) (subst (Holds raw w table t) (sym all) k.holds, ap length (k.left ∙ ap (λ (z : Pieces). z.left) ps) ∙ length-drop t.at raw) }
 
 pub pass_over : {raw : Bytes} {w : ℕ} {table : List ℕ} {t : Tally} → Passing raw w table t → t.over ≡ true → Passed raw w table t

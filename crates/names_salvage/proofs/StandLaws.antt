@@ -18,7 +18,7 @@ use Rattle.names.specs.Check.{Shares, plain}
 use Rattle.names.proofs.ModeLaws.{text_read}
 use Rattle.names.proofs.OrderLaws.{in_name_lem, ends_left, ends_right, byte_less, byte_more}
 use Rattle.names.proofs.StandingLaws.{plain_append, plain_front, plain_begin, plain_slash, plain_nul, good_plain, shares_compare}
-use Rattle.names_salvage.specs.Answers.{Stands, ofTree}
+use Rattle.names_salvage.specs.Answers.{Stands, of_tree}
 
 -- no byte of a plain name is a slash or NUL
 plain_rest : (n : Bytes) (i : ℕ) → plain n ≡ true → plain (drop i n) ≡ true
@@ -174,11 +174,11 @@ module _ {raw : Bytes} {v : ℕ} {e : Entry} (st : Stands raw v e) where
           let q : i ≡ length e.name = omega (arith, ltb-false i (length e.name) f) in
           absurd (ne (there ∙ rw q (get_or-append_seam e.name 0 (e.id ++ st.rest) 0)))
 
-  pub byte_end : (i : ℕ) → i ≤ length e.name → get_or raw (v / 8 + i) 0 ≡ 0 → (b : Bool) → b ≡ ofTree (mode_of (take (v % 8) (drop (v / 8 - 1 - v % 8) raw))) → cond b 47 0 ≡ get_or (key e) i 0
+  pub byte_end : (i : ℕ) → i ≤ length e.name → get_or raw (v / 8 + i) 0 ≡ 0 → (b : Bool) → b ≡ of_tree (mode_of (take (v % 8) (drop (v / 8 - 1 - v % 8) raw))) → cond b 47 0 ≡ get_or (key e) i 0
   byte_end i h z b q = go (ltb i (length e.name)) refl
     where
       kind : b ≡ is_tree e.mode
-      kind = q ∙ ap (λ (l : Bytes). ofTree (mode_of l)) text_there ∙ ap ofTree (text_read e.mode)
+      kind = q ∙ ap (λ (l : Bytes). of_tree (mode_of l)) text_there ∙ ap of_tree (text_read e.mode)
 
       there : get_or raw (v / 8 + i) 0 ≡ get_or (e.name ++ (0 ∷ (e.id ++ st.rest))) i 0
       there = sym (get_or-drop (v / 8) raw i 0) ∙ ap (λ (l : Bytes). get_or l i 0) name_there

@@ -18,7 +18,7 @@ use Rattle.model.proofs.SearchLaws.{rising_low}
 use Rattle.model.proofs.SoundTrees.{sound_well, name_of, name_plain}
 use Rattle.model.proofs.WellFormedLaws.{found_tail}
 use Rattle.names.specs.Check.{names_of}
-use Rattle.names_salvage.specs.Answers.{mendedOf}
+use Rattle.names_salvage.specs.Answers.{mended_of}
 use Rattle.names_salvage.specs.Mending.{Mended, nothing, sorted, above, mend1, mend_all}
 use Rattle.names_salvage.specs.Pieces.{Piece, piece_of, read_on, pieces_in, pieces_of}
 use Rattle.names_salvage.proofs.KeepLaws.{rising_sorted, sorted_with, below_all}
@@ -59,11 +59,11 @@ unfolding sorted
 ordered_nothing = record { stays = λ z. refl; rises = λ r. refl }
 
 -- the entries kept, as they stood, and as they come out
-pub not_moved : (w : ℕ) (raw : Bytes) → (mendedOf w raw).moved ≡ 0 → sorted (mendedOf w raw).kept ≡ reverse (mendedOf w raw).kept
+pub not_moved : (w : ℕ) (raw : Bytes) → (mended_of w raw).moved ≡ 0 → sorted (mended_of w raw).kept ≡ reverse (mended_of w raw).kept
 not_moved w raw z = (ordered_all (pieces_of w raw).read nothing ordered_nothing).stays z
 
-pub if_not_moved : (w : ℕ) (raw : Bytes) → sorted (mendedOf w raw).kept ≡ reverse (mendedOf w raw).kept → (mendedOf w raw).moved ≡ 0
-if_not_moved w raw e = (ordered_all (pieces_of w raw).read nothing ordered_nothing).rises (ap (rising key) (sym e) ∙ rising_sorted (mendedOf w raw).kept)
+pub if_not_moved : (w : ℕ) (raw : Bytes) → sorted (mended_of w raw).kept ≡ reverse (mended_of w raw).kept → (mended_of w raw).moved ≡ 0
+if_not_moved w raw e = (ordered_all (pieces_of w raw).read nothing ordered_nothing).rises (ap (rising key) (sym e) ∙ rising_sorted (mended_of w raw).kept)
 
 -- Double: a name is in a well-formed tree exactly if it is the name of one of its entries.
 or_either : (b : Bool) → (b || true) ≡ true

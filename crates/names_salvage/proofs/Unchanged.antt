@@ -21,7 +21,7 @@ use Rattle.names.specs.Check.{is_less}
 use Rattle.names.specs.Splice.{splice}
 use Rattle.names.proofs.ModeLaws.{text_read}
 use Rattle.names.proofs.StandingLaws.{no_nul, good_plain}
-use Rattle.names_salvage.specs.Answers.{mendedOf}
+use Rattle.names_salvage.specs.Answers.{mended_of}
 use Rattle.names_salvage.specs.Mending.{Mended, nothing, sorted, above, mend1, mend_all, fits, within, Answer, refusal, told, mended}
 use Rattle.names_salvage.specs.Pieces.{Piece, Pieces, piece_of, pieces_of}
 use Rattle.names_salvage.proofs.KeepLaws.{sorted_with, below_all}
@@ -66,8 +66,8 @@ parts_read w o n i rest ho hn hi =
       drop_at i rest w hi,
     )
 
-entry_read : (w : ℕ) (e : Entry) (rest : Bytes) → good_name e.name ≡ true → length e.id ≡ w → piece_of w (raw_entry e ++ rest) ≡ some (piece_for e rest)
-entry_read w e rest g l =
+entry_read_lem : (w : ℕ) (e : Entry) (rest : Bytes) → good_name e.name ≡ true → length e.id ≡ w → piece_of w (raw_entry e ++ rest) ≡ some (piece_for e rest)
+entry_read_lem w e rest g l =
     ap (piece_of w) (ap (λ (s : Bytes). s ++ rest) (entry_piece e) ∙ append_assoc (octal e.mode) (32 ∷ e.name ++ (0 ∷ e.id)) rest ∙ ap (λ (s : Bytes). octal e.mode ++ (32 ∷ s)) (append_assoc e.name (0 ∷ e.id) rest))
     ∙ parts_read w (octal e.mode) e.name e.id rest (no_space e.mode) (no_nul e.name (good_plain e.name g)) l
 
@@ -159,7 +159,7 @@ clean_all w [] s m h c =
     let p = pieces_none w [] (piece_nil w) in
     (subst (λ (q : Pieces). Clean (mend_all q.read m) (s ++ [])) (sym p) (subst (λ (u : Tree). Clean (mend_all [] m) u) (sym (append-nil s)) (subst (λ (z : Mended). Clean z s) (sym (mend_nil m)) c)), ap (λ (q : Pieces). q.left) p)
 clean_all w (e ∷ t) s m h c =
-    let p = pieces_some w (raw_tree (e ∷ t)) (piece_for e (raw_tree t)) (entry_read w e (raw_tree t) (good_one w s e t h).0 (good_one w s e t h).1) in
+    let p = pieces_some w (raw_tree (e ∷ t)) (piece_for e (raw_tree t)) (entry_read_lem w e (raw_tree t) (good_one w s e t h).0 (good_one w s e t h).1) in
     let j : (s ++ (e ∷ [])) ++ t ≡ s ++ (e ∷ t) = append_assoc s (e ∷ []) t in
     let r = clean_all w t (s ++ (e ∷ [])) (mend1 (piece_for e (raw_tree t)) m) (ap (well_formed w) j ∙ h) (clean_one w m s e t (raw_tree t) h c) in (
       subst (λ (q : Pieces). Clean (mend_all q.read m) (s ++ (e ∷ t))) (sym p)
@@ -192,7 +192,7 @@ unchanged w raw d t e h l =
     told_clean (mend_all (pieces_of w (raw_tree t)).read nothing) t (length (pieces_of w (raw_tree t)).left) d c.0 h (ap length c.1) (omega (arith, ap length q)))
 
 -- the tree that the bytes are the raw form of has as many entries and name bytes as were kept
-read_clean : (w : ℕ) (raw : Bytes) (t : Tree) → read_tree w raw ≡ some t → Clean (mendedOf w raw) t
+read_clean : (w : ℕ) (raw : Bytes) (t : Tree) → read_tree w raw ≡ some t → Clean (mended_of w raw) t
 read_clean w raw t e =
     let r = read_only w raw t e in
     subst (λ (z : Bytes). Clean (mend_all (pieces_of w z).read nothing) t) r.0 (clean_all w t [] nothing r.1 clean_nothing).0
@@ -222,9 +222,9 @@ told_zero m cut d e = go (within m.kept) refl (leb (length (raw_tree (sorted m.k
     go true p false q z = absurd (let y : ◌≡◌ {A = ℕ} 11 0 = z in omega arith)
     go true p true q z = record { fitting = p; room = leb-true (length raw) (length d) q; cut_is = refl; name_is = refl; mode_is = refl; double_is = refl; moved_is = refl }
 
-mended_zero : (w : ℕ) (raw d : Bytes) → (mended w raw d).code ≡ 0 → Zero (mendedOf w raw) (length (pieces_of w raw).left) d (mended w raw d)
+mended_zero : (w : ℕ) (raw d : Bytes) → (mended w raw d).code ≡ 0 → Zero (mended_of w raw) (length (pieces_of w raw).left) d (mended w raw d)
 unfolding mended
-mended_zero w raw d e = told_zero (mendedOf w raw) (length (pieces_of w raw).left) d e
+mended_zero w raw d e = told_zero (mended_of w raw) (length (pieces_of w raw).left) d e
 
 -- the number is 0, and so is each count
 pub record AllZero (a : Answer) : Type 0 where
@@ -237,7 +237,7 @@ pub record AllZero (a : Answer) : Type 0 where
 
 pub only_unbroken : (w : ℕ) (raw d : Bytes) → AllZero (mended (suc w) raw d) → (t : Tree) × (read_tree (suc w) raw ≡ some t) × (within t ≡ true) × (mended (suc w) raw d ≡ same_again raw d)
 only_unbroken w raw d a =
-    let m = mendedOf (suc w) raw in
+    let m = mended_of (suc w) raw in
     let z = mended_zero (suc w) raw d a.code in
     let u : Untouched m = record { bad_name = sym z.name_is ∙ a.bad_name; bad_mode = sym z.mode_is ∙ a.bad_mode; double = sym z.double_is ∙ a.double; moved = sym z.moved_is ∙ a.moved } in
     let o = only_well w raw u (sym z.cut_is ∙ a.cut) in

@@ -45,9 +45,9 @@ pub record Lists (raw : Bytes) (vs : List ℕ) (t : Tree) : Type 0 where
   pub each : (i : ℕ) → i < length t → Stands raw (get_or vs i 0) (get_or t i blank)
 
 -- whether a mode is that of a tree
-abbrev pub ofTree : Option Mode → Bool
-ofTree none = false
-ofTree (some m) = is_tree m
+abbrev pub of_tree : Option Mode → Bool
+of_tree none = false
+of_tree (some m) = is_tree m
 
 -- whether a name is in a tree, and where an entry of it goes that is a tree or a file
 pub record PlaceIs (t : Tree) (name : Bytes) (tree found : Bool) (i : ℕ) : Type 0 where
@@ -94,12 +94,12 @@ pub record Turned (raw : Bytes) (w : ℕ) (table : List ℕ) (t : Tally) (m : Me
   pub is : TurnedTo t.over raw w table t m next
 
 -- what is known at the end
-abbrev pub mendedOf : ℕ → Bytes → Mended
-mendedOf w raw = mend_all (pieces_of w raw).read nothing
+abbrev pub mended_of : ℕ → Bytes → Mended
+mended_of w raw = mend_all (pieces_of w raw).read nothing
 
 abbrev pub PassedTo : Bool → Bytes → ℕ → List ℕ → Tally → Type 0
-PassedTo true raw w table t = within (mendedOf w raw).kept ≡ false
-PassedTo false raw w table t = Holds raw w table t (mendedOf w raw) × (length (pieces_of w raw).left ≡ length raw - t.at)
+PassedTo true raw w table t = within (mended_of w raw).kept ≡ false
+PassedTo false raw w table t = Holds raw w table t (mended_of w raw) × (length (pieces_of w raw).left ≡ length raw - t.at)
 
 pub record Passed (raw : Bytes) (w : ℕ) (table : List ℕ) (t : Tally) : Type 0 where
   pub is : PassedTo t.over raw w table t

@@ -5,9 +5,9 @@ ghost use Rattle.model.specs.Map.{rising};
 ghost use Rattle.model.specs.Raw.{mode_of};
 ghost use Rattle.model.specs.Search.{searched};
 ghost use Rattle.model.specs.Tree.{Entry, Tree, as_kind, key, good_name};
-ghost use Rattle.names.specs.Answers.{asOrdering};
+ghost use Rattle.names.specs.Answers.{as_ordering};
 ghost use Rattle.names_compact.specs.Compact.{spot_of};
-ghost use Rattle.names_salvage.specs.Answers.{Stands, Lists, ofTree, PlaceIs};
+ghost use Rattle.names_salvage.specs.Answers.{Stands, Lists, of_tree, PlaceIs};
 
 use names::mode::{Mode, ModeRead};
 use names::order::Order;
@@ -21,7 +21,7 @@ pub struct Spot {
 
 // Whether a text is the mode of a tree.
 fn tree_text(text: &[u8]) -> bool
-    ensures { result ≡ ofTree (mode_of text.now) }
+    ensures { result ≡ of_tree (mode_of text.now) }
 {
     match Mode::from_octal(text) {
         ModeRead::Kind(kind) => names::mode::is_tree(kind),
@@ -60,7 +60,7 @@ fn other_byte(raw: &[u8], v: usize, i: usize) -> u8
 // The order of a name and an entry of the table.
 fn order_at(raw: &[u8], v: usize, name: &[u8], tree: bool) -> Order
     requires { ((e : Entry) × Stands raw.now v e) × (good_name name.now ≡ true) }
-    ensures { (e : Entry) → Stands raw.now v e → asOrdering result ≡ cmp (as_kind tree name.now) (key e) }
+    ensures { (e : Entry) → Stands raw.now v e → as_ordering result ≡ cmp (as_kind tree name.now) (key e) }
 {
     let i = names::order::shared(name, names::part::after(raw, v / 8));
     let x = key_byte(name, tree, i);

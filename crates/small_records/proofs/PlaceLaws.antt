@@ -14,7 +14,7 @@ use Rattle.model.specs.Raw.{mode_of}
 use Rattle.model.specs.Walk.{RemoveKind}
 use Rattle.lines.specs.Hex.{hexed}
 use Rattle.small_records.specs.Records.{op_key, path_key, kind_key, id_key, Verb, adds, takes, verb_of, Op, put, drops, put_as, op_of, good_id}
-use Rattle.lines.specs.Answers.{valueRead}
+use Rattle.lines.specs.Answers.{value_read}
 use Rattle.lines.specs.declared.line.Value.{Value}
 use Rattle.lines.specs.declared.line.Value.TheVariants.{At, Broken}
 use Rattle.lines.specs.Places.{value_at, told}
@@ -25,37 +25,37 @@ use Rattle.lines.proofs.HexLaws.{hex_even}
 -- The four lines: what their values say
 module _ (s : Bytes) (at : ℕ) {r : Value} where
   module _ {x n : ℕ} {t : Bytes} where
-    pub op_is : valueRead r ≡ value_at op_key s at → r ≡ At x n → t ≡ take n (drop x s) → {o : Option Verb} → o ≡ verb_of t → told o (x + n + 1) ≡ op_at s at
+    pub op_is : value_read r ≡ value_at op_key s at → r ≡ At x n → t ≡ take n (drop x s) → {o : Option Verb} → o ≡ verb_of t → told o (x + n + 1) ≡ op_at s at
     unfolding op_at
-    op_is e q et eo = rw (from valueRead e q, ← et, ← eo)
+    op_is e q et eo = rw (from value_read e q, ← et, ← eo)
 
-    pub path_is : valueRead r ≡ value_at path_key s at → r ≡ At x n → t ≡ take n (drop x s) → {b : Bool} → b ≡ hexed t → cond b (some (record { at = x; len = n })) none ≡ path_at s at
+    pub path_is : value_read r ≡ value_at path_key s at → r ≡ At x n → t ≡ take n (drop x s) → {b : Bool} → b ≡ hexed t → cond b (some (record { at = x; len = n })) none ≡ path_at s at
     unfolding path_at
-    path_is e q et eb = rw (from valueRead e q, ← et, ← eb)
+    path_is e q et eb = rw (from value_read e q, ← et, ← eb)
 
-    pub kind_is : (v : Verb) → valueRead r ≡ value_at kind_key s at → r ≡ At x n → t ≡ take n (drop x s) → {o : Option Op} → o ≡ op_of v t → told o (x + n + 1) ≡ kind_at s v at
+    pub kind_is : (v : Verb) → value_read r ≡ value_at kind_key s at → r ≡ At x n → t ≡ take n (drop x s) → {o : Option Op} → o ≡ op_of v t → told o (x + n + 1) ≡ kind_at s v at
     unfolding kind_at
-    kind_is v e q et eo = rw (from valueRead e q, ← et, ← eo)
+    kind_is v e q et eo = rw (from value_read e q, ← et, ← eo)
 
-    pub id_is : (w : ℕ) (k : Op) → valueRead r ≡ value_at id_key s at → r ≡ At x n → t ≡ take n (drop x s) → {b : Bool} → b ≡ good_id w k t → cond b (some (record { at = x; len = n })) none ≡ id_at w s k at
+    pub id_is : (w : ℕ) (k : Op) → value_read r ≡ value_at id_key s at → r ≡ At x n → t ≡ take n (drop x s) → {b : Bool} → b ≡ good_id w k t → cond b (some (record { at = x; len = n })) none ≡ id_at w s k at
     unfolding id_at
-    id_is w k e q et eb = rw (from valueRead e q, ← et, ← eb)
+    id_is w k e q et eb = rw (from value_read e q, ← et, ← eb)
 
-  pub no_op : valueRead r ≡ value_at op_key s at → r ≡ Broken → none ≡ op_at s at
+  pub no_op : value_read r ≡ value_at op_key s at → r ≡ Broken → none ≡ op_at s at
   unfolding op_at
-  no_op e q = rw (from valueRead e q)
+  no_op e q = rw (from value_read e q)
 
-  pub no_path : valueRead r ≡ value_at path_key s at → r ≡ Broken → none ≡ path_at s at
+  pub no_path : value_read r ≡ value_at path_key s at → r ≡ Broken → none ≡ path_at s at
   unfolding path_at
-  no_path e q = rw (from valueRead e q)
+  no_path e q = rw (from value_read e q)
 
-  pub no_kind : (v : Verb) → valueRead r ≡ value_at kind_key s at → r ≡ Broken → none ≡ kind_at s v at
+  pub no_kind : (v : Verb) → value_read r ≡ value_at kind_key s at → r ≡ Broken → none ≡ kind_at s v at
   unfolding kind_at
-  no_kind v e q = rw (from valueRead e q)
+  no_kind v e q = rw (from value_read e q)
 
-  pub no_id : (w : ℕ) (k : Op) → valueRead r ≡ value_at id_key s at → r ≡ Broken → none ≡ id_at w s k at
+  pub no_id : (w : ℕ) (k : Op) → value_read r ≡ value_at id_key s at → r ≡ Broken → none ≡ id_at w s k at
   unfolding id_at
-  no_id w k e q = rw (from valueRead e q)
+  no_id w k e q = rw (from value_read e q)
 
 -- nothing is said only where there are no bytes
 pub nil_empty : (l : Bytes) → length l ≡ 0 → is_nil l ≡ true

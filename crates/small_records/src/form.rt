@@ -1,6 +1,6 @@
 // Whether a whole input has the form.
 ghost use Rattle.std.specs.Prelude.{◌≡◌};
-ghost use Rattle.small_records.specs.Answers.{asForm};
+ghost use Rattle.small_records.specs.Answers.{as_form};
 ghost use Rattle.small_records.specs.Records.{form_of, reading};
 
 use crate::record::RecordRead;
@@ -14,7 +14,7 @@ pub enum Form {
 
 // Reads a whole input, for ids of so many bytes.
 pub fn first_bad(input: &[u8], width: usize) -> Form
-    ensures { asForm result ≡ form_of (reading width input.now) }
+    ensures { as_form result ≡ form_of (reading width input.now) }
 {
     if 65536 < input.len() {
         return Form::Bad(0);

@@ -1,7 +1,7 @@
 // Records of four lines, by the places where their parts stand.
 ghost use Rattle.std.specs.Prelude.{◌≡◌};
-ghost use Rattle.lines.specs.Answers.{valueRead};
-ghost use Rattle.small_records.specs.Answers.{asVerb, verbRead, opLine, asOp, opRead, kindLine, nextRead};
+ghost use Rattle.lines.specs.Answers.{value_read};
+ghost use Rattle.small_records.specs.Answers.{as_verb, verb_read, op_line, as_op, op_read, kind_line, next_read};
 ghost use Rattle.small_records.specs.Places.{op_at, path_at, kind_at, id_at, next_at};
 ghost use Rattle.small_records.specs.Records.{verb_of, op_of, good_id};
 
@@ -66,7 +66,7 @@ pub enum RecordRead {
 
 // What the value of an `op=` line says.
 fn verb_of(text: &[u8]) -> VerbRead
-    ensures { verbRead result ≡ verb_of text.now }
+    ensures { verb_read result ≡ verb_of text.now }
 {
     if names::order::same_bytes(text, b"upsert") {
         return VerbRead::Verb(Verb::Upsert);
@@ -82,7 +82,7 @@ fn verb_of(text: &[u8]) -> VerbRead
 
 // The `op=` line at a place.
 fn op_at(input: &[u8], at: usize) -> OpLine
-    ensures { opLine result ≡ op_at input.now at }
+    ensures { op_line result ≡ op_at input.now at }
 {
     match lines::line::value_at(input, at, b"op=") {
         Value::At { at, len } => match verb_of(names::part::between(input, at, len)) {
@@ -98,7 +98,7 @@ fn op_at(input: &[u8], at: usize) -> OpLine
 
 // The `path=` line at a place.
 fn path_at(input: &[u8], at: usize) -> Value
-    ensures { valueRead result ≡ path_at input.now at }
+    ensures { value_read result ≡ path_at input.now at }
 {
     match lines::line::value_at(input, at, b"path=") {
         Value::At { at, len } => {
@@ -114,7 +114,7 @@ fn path_at(input: &[u8], at: usize) -> Value
 
 // What the value of a `kind=` line makes of a verb.
 fn op_of(verb: Verb, text: &[u8]) -> OpRead
-    ensures { opRead result ≡ op_of (asVerb verb) text.now }
+    ensures { op_read result ≡ op_of (as_verb verb) text.now }
 {
     match verb {
         Verb::Upsert => match Mode::from_octal(text) {
@@ -140,7 +140,7 @@ fn op_of(verb: Verb, text: &[u8]) -> OpRead
 
 // The `kind=` line at a place, after the verb.
 fn kind_at(input: &[u8], verb: Verb, at: usize) -> KindLine
-    ensures { kindLine result ≡ kind_at input.now (asVerb verb) at }
+    ensures { kind_line result ≡ kind_at input.now (as_verb verb) at }
 {
     match lines::line::value_at(input, at, b"kind=") {
         Value::At { at, len } => match op_of(verb, names::part::between(input, at, len)) {
@@ -156,7 +156,7 @@ fn kind_at(input: &[u8], verb: Verb, at: usize) -> KindLine
 
 // Whether the value of an `id=` line goes with the record, for ids of so many bytes.
 fn id_ok(width: usize, op: Op, text: &[u8]) -> bool
-    ensures { result ≡ good_id width (asOp op) text.now }
+    ensures { result ≡ good_id width (as_op op) text.now }
 {
     match op {
         Op::Upsert(_) => {
@@ -173,7 +173,7 @@ fn id_ok(width: usize, op: Op, text: &[u8]) -> bool
 
 // The `id=` line at a place.
 fn id_at(width: usize, input: &[u8], op: Op, at: usize) -> Value
-    ensures { valueRead result ≡ id_at width input.now (asOp op) at }
+    ensures { value_read result ≡ id_at width input.now (as_op op) at }
 {
     match lines::line::value_at(input, at, b"id=") {
         Value::At { at, len } => {
@@ -189,7 +189,7 @@ fn id_at(width: usize, input: &[u8], op: Op, at: usize) -> Value
 
 // The record at a place, for ids of so many bytes.
 pub fn next_record(input: &[u8], at: usize, width: usize) -> RecordRead
-    ensures { nextRead result ≡ next_at width input.now at }
+    ensures { next_read result ≡ next_at width input.now at }
 {
     if input.len() <= at {
         return RecordRead::End;

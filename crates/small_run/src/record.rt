@@ -3,11 +3,11 @@ ghost use Rattle.std.specs.Prelude.{◌≡◌, true, false, List, [], ℕ, ◌�
 ghost use Rattle.model.specs.Formats.{sha1};
 ghost use Rattle.model.specs.Script.{no_table};
 ghost use Rattle.model.specs.Calls as model;
-ghost use Rattle.editor_terms.specs.Answers.{codeNumber};
+ghost use Rattle.editor_terms.specs.Answers.{code_number};
 ghost use Rattle.editor_terms.specs.Edits.{as_edit};
 ghost use Rattle.editor_terms.specs.Ids.{id_bytes};
 ghost use Rattle.editor.specs.Lent.{lent, Good, viewed};
-ghost use Rattle.small_records.specs.Answers.{asOp};
+ghost use Rattle.small_records.specs.Answers.{as_op};
 ghost use Rattle.lines.specs.Hex.{hexed, bytes_of};
 ghost use Rattle.small_records.specs.Places.{Found, found, next_at, record_found};
 ghost use Rattle.small_records.specs.Records.{EditRecord, edit_of, good_id, good as goodInput, reading};
@@ -50,8 +50,8 @@ fn id_of(digits: &[u8]) -> Id
 
 // The edit that a record says, with the digits of its id.
 fn edit_of(op: Op, digits: &[u8]) -> Edit
-    requires { good_id 20 (asOp op) digits.now ≡ true }
-    ensures { as_edit result ≡ edit_of (asOp op) digits.now }
+    requires { good_id 20 (as_op op) digits.now ≡ true }
+    ensures { as_edit result ≡ edit_of (as_op op) digits.now }
 {
     match op {
         Op::Upsert(kind) => Edit::Upsert(kind, id_of(digits)),
@@ -72,7 +72,7 @@ fn apply(
     edit: Edit,
 ) -> Answer
     requires { Good (lent ed plens.old paths.old tlens.old trees.old order.now) × (hexed digits.now ≡ true) × (length (bytes_of digits.now) ≤ 32768) }
-    ensures code { codeNumber result.code ≡ (model.edited sha1 no_table (as_edit edit) false [] (bytes_of digits.now) (viewed (lent ed plens.old paths.old tlens.old trees.old order.now))).code }
+    ensures code { code_number result.code ≡ (model.edited sha1 no_table (as_edit edit) false [] (bytes_of digits.now) (viewed (lent ed plens.old paths.old tlens.old trees.old order.now))).code }
     ensures editor { Leaves (model.edited sha1 no_table (as_edit edit) false [] (bytes_of digits.now) (viewed (lent ed plens.old paths.old tlens.old trees.old order.now)))
         (lent result.ed plens.new paths.new tlens.new trees.new order.now) }
 {
@@ -88,7 +88,7 @@ fn apply(
 // Writes the two lines of a refused edit; an accepted one has none.
 fn report(out: &mut [u8], to: usize, k: u64, code: Code) -> Put
     requires { to ≤ length out.old }
-    ensures { Puts out.old to (refusal k (codeNumber code)) result out.new }
+    ensures { Puts out.old to (refusal k (code_number code)) result out.new }
 {
     let n = editor_terms::code::number(code);
     if n == 0 {

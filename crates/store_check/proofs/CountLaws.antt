@@ -11,7 +11,7 @@ use lib.Seq.{take_all}
 use borrow.Author.Tests.{eqb-true, eqb-false}
 use Rattle.model.specs.Bytes.{Bytes}
 use Rattle.model.proofs.Basics.{none_some}
-use Rattle.names.specs.Answers.{checkedAs}
+use Rattle.names.specs.Answers.{checked_as}
 use Rattle.names.specs.Check.{size_of}
 use Rattle.names_compact.specs.Compact.{unpack}
 use Rattle.names_compact.specs.Judge.{compact_tree}
@@ -57,15 +57,15 @@ module _ {f : Bytes → ℕ} {bs : List Bytes} {all left k : ℕ} (s : Spent f b
 
 -- ---- what the check of a run says
 
-module _ (w : ℕ) (b : Bytes) (x : Checked) (e : checkedAs x ≡ size_of (compact_tree w b)) where
+module _ (w : ℕ) (b : Bytes) (x : Checked) (e : checked_as x ≡ size_of (compact_tree w b)) where
   pub broken : x ≡ Broken → Whole w b → ⊥
   broken q t =
       let c : compact_tree w b ≡ some (unpack w b) = ap (compact_tree w) t.packed ∙ compact_back w (unpack w b) t.well in
-      none_some _ (sym (ap checkedAs q) ∙ e ∙ ap size_of c)
+      none_some _ (sym (ap checked_as q) ∙ e ∙ ap size_of c)
 
   module _ (n m : ℕ) (q : x ≡ WellFormed n m) where
     sized : (compact_tree w b ≡ some (unpack w b)) × (length (unpack w b) ≡ n) × (names_in w b ≡ m)
-    sized = compact_sized w b (record { entries = n; bytes = m }) (sym e ∙ ap checkedAs q)
+    sized = compact_sized w b (record { entries = n; bytes = m }) (sym e ∙ ap checked_as q)
 
     pub formed : Whole w b
     formed =
@@ -90,8 +90,8 @@ pub count_none : {w : ℕ} {lens bytes : List ℕ} {E N : ℕ} → Counting w le
 count_none = record { along = along_none; entries = spent_none; names = spent_none }
 
 module _ {w : ℕ} {lens bytes : List ℕ} {E N es ns a k : ℕ} (c : Counting w lens bytes E N es ns a k) where
-  module _ {used : ℕ} (sound : Sound lens bytes used) (l : length lens ≡ 64) (h : k < 64) (x : Checked) (e : checkedAs x ≡ size_of (compact_tree w (part bytes a (a + get_or lens k 0 - a)))) where
-    here : checkedAs x ≡ size_of (compact_tree w (get_or (cut lens bytes) k []))
+  module _ {used : ℕ} (sound : Sound lens bytes used) (l : length lens ≡ 64) (h : k < 64) (x : Checked) (e : checked_as x ≡ size_of (compact_tree w (part bytes a (a + get_or lens k 0 - a)))) where
+    here : checked_as x ≡ size_of (compact_tree w (get_or (cut lens bytes) k []))
     here = e ∙ ap (λ (b : Bytes). size_of (compact_tree w b)) (run_here c.along sound l h)
 
     inside : k < length (cut lens bytes)

@@ -8,7 +8,7 @@ ghost use Rattle.model.specs.Map.{find, put, del};
 ghost use Rattle.model.specs.Tree.{is_tree, as_kind, key, good_name, without, with_entry};
 ghost use Rattle.model.specs.Search.{searched};
 ghost use Rattle.model.specs.Editor.{at, fits};
-ghost use Rattle.names.specs.Answers.{asMode, entry};
+ghost use Rattle.names.specs.Answers.{as_mode, entry};
 ghost use Rattle.names_compact.specs.Compact.{packed, unpack, Tells};
 ghost use Rattle.names.specs.Splice.{splice};
 ghost use Rattle.store_runs.specs.Runs.{cut, with_run, run_of, Sound};
@@ -98,7 +98,7 @@ fn insert_at(
     requires { Laid width r plens.now paths.now tlens.old trees.old × (width ≤ 64) × Used r slot × (length id.now ≡ width) × (good_name name.now ≡ true)
         × Fresh name.now (tree_of width tlens.old trees.old slot)
         × (fits (put at (held_as (path_of plens.now paths.now slot) (put key (entry kind name.now id.now) (tree_of width tlens.old trees.old slot))) (view_of width r plens.now paths.now tlens.old trees.old)) ≡ true)
-        × Tells width (run_of tlens.old trees.old slot) (searched key (as_kind (is_tree (asMode kind)) name.now) (unpack width (run_of tlens.old trees.old slot))) place }
+        × Tells width (run_of tlens.old trees.old slot) (searched key (as_kind (is_tree (as_mode kind)) name.now) (unpack width (run_of tlens.old trees.old slot))) place }
     ensures { Edited width r plens.now paths.now tlens.old trees.old slot (put key (entry kind name.now id.now) (tree_of width tlens.old trees.old slot)) result tlens.new trees.new }
 {
     let nt = r.trees;
@@ -180,7 +180,7 @@ fn replace(
     name: &[u8],
 ) -> Record
     requires { Laid width r plens.now paths.now tlens.old trees.old × (width ≤ 64) × Used r slot × (length id.now ≡ width) × (good_name name.now ≡ true)
-        × (find key (as_kind (is_tree (asMode kind)) name.now) (tree_of width tlens.old trees.old slot) ≡ none)
+        × (find key (as_kind (is_tree (as_mode kind)) name.now) (tree_of width tlens.old trees.old slot) ≡ none)
         × (fits (put at (held_as (path_of plens.now paths.now slot) (with_entry (entry kind name.now id.now) (tree_of width tlens.old trees.old slot))) (view_of width r plens.now paths.now tlens.old trees.old)) ≡ true) }
     ensures { Edited width r plens.now paths.now tlens.old trees.old slot (with_entry (entry kind name.now id.now) (tree_of width tlens.old trees.old slot)) result tlens.new trees.new }
 {
@@ -204,9 +204,9 @@ fn add(
     name: &[u8],
 ) -> Record
     requires { Laid width r plens.now paths.now tlens.old trees.old × (width ≤ 64) × Used r slot × (length id.now ≡ width) × (good_name name.now ≡ true)
-        × (find key (as_kind (is_tree (asMode kind)) name.now) (tree_of width tlens.old trees.old slot) ≡ none)
+        × (find key (as_kind (is_tree (as_mode kind)) name.now) (tree_of width tlens.old trees.old slot) ≡ none)
         × (fits (put at (held_as (path_of plens.now paths.now slot) (with_entry (entry kind name.now id.now) (tree_of width tlens.old trees.old slot))) (view_of width r plens.now paths.now tlens.old trees.old)) ≡ true)
-        × Tells width (run_of tlens.old trees.old slot) (searched key (as_kind (is_tree (asMode kind)) name.now) (unpack width (run_of tlens.old trees.old slot))) place }
+        × Tells width (run_of tlens.old trees.old slot) (searched key (as_kind (is_tree (as_mode kind)) name.now) (unpack width (run_of tlens.old trees.old slot))) place }
     ensures { Edited width r plens.now paths.now tlens.old trees.old slot (with_entry (entry kind name.now id.now) (tree_of width tlens.old trees.old slot)) result tlens.new trees.new }
 {
     let nt = r.trees;

@@ -25,7 +25,7 @@ use Rattle.model.specs.Valid.{valid}
 use Rattle.model.specs.Order.{All, idle, accepted, Upsert, Perm, AllApart, Runs}
 use Rattle.model.proofs.Basics.{some_none}
 use Rattle.model.proofs.Theorems.{alike, output_20}
-use Rattle.editor_terms.specs.Answers.{codeNumber}
+use Rattle.editor_terms.specs.Answers.{code_number}
 use Rattle.editor_terms.specs.declared.code.Code.{Code}
 use Rattle.editor_terms.specs.declared.code.Code.TheVariants.{Done}
 use Rattle.editor_terms.proofs.IdLaws.{sha1_wide}
@@ -112,11 +112,11 @@ reads_is s r g x = x.gives ∙ go (requested (viewed s)) refl
 
     go : (o : Option Held) → requested (viewed s) ≡ o → given x.code x.len x.place x.after ≡ as_request o []
     go none e =
-        let n : codeNumber x.code ≡ 10 = d.1.number ∙ ap shown_number (show_none (length x.before) (viewed s) e) in
+        let n : code_number x.code ≡ 10 = d.1.number ∙ ap shown_number (show_none (length x.before) (viewed s) e) in
         ap (λ (k : ℕ). cond (eqb k 0) ((take x.place.len x.place.prefix, take x.len x.after) ∷ []) []) n
     go (some h) e =
         let y : show (length x.before) (viewed s) ≡ shown (raw_tree h.held) = output_20 sha1 (viewed s) (length x.before) h sha1_wide (viewed_valid s g) x.room e in
-        let n : codeNumber x.code ≡ 0 = d.1.number ∙ ap shown_number y in
+        let n : code_number x.code ≡ 0 = d.1.number ∙ ap shown_number y in
         let k : x.code ≡ Done = one_code x.code Done (λ z. omega (arith, z, n)) n in
         let raw : take x.len x.after ≡ raw_tree h.held = shown_inj (take x.len x.after) (raw_tree h.held) (ap (λ (c : Code). shown_as c x.len x.after) (sym k) ∙ d.1.is ∙ y) in
         let p : x.place ≡ cursor_at h.path = d.2 ∙ ap (λ (z : Shown). cursor_at (place_in z (requested (viewed s)))) y ∙ ap (λ (z : Option Held). cursor_at (place_in (shown (raw_tree h.held)) z)) e in

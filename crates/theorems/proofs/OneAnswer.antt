@@ -27,7 +27,7 @@ use Rattle.model.proofs.LowNumbers.{measured_low}
 use Rattle.model.proofs.MeasureRight.{measure_code}
 use Rattle.model.specs.Lookup.{found, looked}
 use Rattle.names.proofs.AnswerLaws.{one_kind}
-use Rattle.editor_terms.specs.Answers.{codeNumber}
+use Rattle.editor_terms.specs.Answers.{code_number}
 use Rattle.editor_terms.specs.Edits.{as_edit}
 use Rattle.editor_terms.specs.Ids.{id_bytes}
 use Rattle.editor_terms.specs.declared.code.Code.{Code}
@@ -43,7 +43,7 @@ use Rattle.editor.specs.declared.cursor.Cursor.{Cursor}
 use Rattle.editor.proofs.SameAnswers.{Same, same_look, same_does, same_makes}
 use Rattle.editor.proofs.LookLaws.{refusal_of, looked_low}
 use Rattle.editor_write.proofs.Theorems.{viewed_valid}
-use Rattle.theorems.specs.Public.{Call, does, Public, new, call, Says, Opens, set_root_lem, edit, cursor_at_lem, begin, begin_at_lem, answer, answer_and_request, fail}
+use Rattle.theorems.specs.Public.{Call, does, Public, new, call, Says, Opens, set_root, edit, cursor_at_call, begin, begin_at, answer, answer_and_request, fail}
 
 -- ---- the number decides the case
 
@@ -52,7 +52,7 @@ code_of n =
     cond (eqb n 0) Done (cond (eqb n 1) EmptyComponent (cond (eqb n 2) TreeNotFound (cond (eqb n 3) TreeDamaged (cond (eqb n 4) NotALeaf (cond (eqb n 5) NoRoom
     (cond (eqb n 6) PathRefused (cond (eqb n 7) BadTable (cond (eqb n 8) CursorStale (cond (eqb n 9) WriteOpen (cond (eqb n 10) NoWriteOpen (cond (eqb n 12) BadRoot StoreDamaged)))))))))))
 
-code_back : (k : Code) → (codeNumber k ≡ 11 → ⊥) → code_of (codeNumber k) ≡ k
+code_back : (k : Code) → (code_number k ≡ 11 → ⊥) → code_of (code_number k) ≡ k
 unfolding code_of
 code_back Done h = refl
 code_back EmptyComponent h = refl
@@ -69,7 +69,7 @@ code_back (OutputShort n) h = absurd (h refl)
 code_back BadRoot h = refl
 code_back StoreDamaged h = refl
 
-pub one_code : (k k' : Code) → (codeNumber k ≡ 11 → ⊥) → codeNumber k ≡ codeNumber k' → k ≡ k'
+pub one_code : (k k' : Code) → (code_number k ≡ 11 → ⊥) → code_number k ≡ code_number k' → k ≡ k'
 one_code k k' h e = sym (code_back k h) ∙ ap code_of e ∙ code_back k' (λ z. h (e ∙ z))
 
 -- ---- no call that changes a store gives 11
@@ -144,25 +144,25 @@ failed_of c (some w) = λ z. omega (arith, z)
 -- two answers are the same: the case, with the number; the editor; what lies behind the fronts; and each byte where the number says that nothing has changed
 pub record One (k : Code) (q : Lent) (k' : Code) (q' : Lent) : Type 0 where
   pub code : k ≡ k'
-  pub store : Same (codeNumber k) q (codeNumber k') q'
+  pub store : Same (code_number k) q (code_number k') q'
 
 does_one : (f : Model → Answer) → ((E : Model) → valid sha1 E ≡ true → Not11 (f E)) →
-    (s : Lent) (k k' : Code) (q q' : Lent) → Does f s (codeNumber k) q → Does f s (codeNumber k') q' → One k q k' q'
+    (s : Lent) (k k' : Code) (q q' : Lent) → Does f s (code_number k) q → Does f s (code_number k') q' → One k q k' q'
 does_one f h s k k' q q' d d' =
-    let z : Same (codeNumber k) q (codeNumber k') q' = same_does f s (codeNumber k) (codeNumber k') q q' d d' in
+    let z : Same (code_number k) q (code_number k') q' = same_does f s (code_number k) (code_number k') q q' d d' in
     record { code = one_code k k' not_11 z.number; store = z }
   where
-    not_11 : codeNumber k ≡ 11 → ⊥
+    not_11 : code_number k ≡ 11 → ⊥
     not_11 e =
         let m = d.done (λ y. omega (arith, e, y)) in
         h (viewed s) (viewed_valid s m.0) (ap (λ (a : Answer). a.code) (sym m.1) ∙ e)
 
-makes_one : (raw : Bytes) (s : Lent) (k k' : Code) (q q' : Lent) → Makes raw s (codeNumber k) q → Makes raw s (codeNumber k') q' → One k q k' q'
+makes_one : (raw : Bytes) (s : Lent) (k k' : Code) (q q' : Lent) → Makes raw s (code_number k) q → Makes raw s (code_number k') q' → One k q k' q'
 makes_one raw s k k' q q' d d' =
-    let z : Same (codeNumber k) q (codeNumber k') q' = same_makes raw s (codeNumber k) (codeNumber k') q q' d d' in
+    let z : Same (code_number k) q (code_number k') q' = same_makes raw s (code_number k) (code_number k') q q' d d' in
     record { code = one_code k k' not_11 z.number; store = z }
   where
-    not_11 : codeNumber k ≡ 11 → ⊥
+    not_11 : code_number k ≡ 11 → ⊥
     not_11 e =
         let m = d.done (λ y. omega (arith, e, y)) in
         rooted_not (viewed s) (read_tree 20 raw) (ap (λ (a : Answer). a.code) (sym m.1.is) ∙ e)
@@ -172,33 +172,33 @@ unfolding opened
 opened_not T path E v = edited_not T (walks.upsert TREE (null sha1.width)) true [] path E v
 
 not_11 : (x : Call) (E : Model) → valid sha1 E ≡ true → Not11 (does x E)
-not_11 (set_root_lem raw) E v = root_not raw E
+not_11 (set_root raw) E v = root_not raw E
 not_11 (edit T e opening prefix path) E v = edited_not T (as_edit e) opening prefix path E v
-not_11 (cursor_at_lem T path) E v = opened_not T path E v
+not_11 (cursor_at_call T path) E v = opened_not T path E v
 not_11 begin E v = begun_not from_root E
-not_11 (begin_at_lem prefix) E v = begun_not (from_cursor prefix) E
+not_11 (begin_at prefix) E v = begun_not (from_cursor prefix) E
 not_11 (answer id) E v = answered_of (id_bytes id) E.cached E.writing
 not_11 (answer_and_request id) E v = answered_of (id_bytes id) E.cached E.writing
 not_11 fail E v = failed_of E.cached E.writing
 
 -- the theorem, for each of the calls
-pub one_answer : (x : Public) (s : Lent) (k k' : Code) (q q' : Lent) → Says x s (codeNumber k) q → Says x s (codeNumber k') q' → One k q k' q'
+pub one_answer : (x : Public) (s : Lent) (k k' : Code) (q q' : Lent) → Says x s (code_number k) q → Says x s (code_number k') q' → One k q k' q'
 one_answer (new raw) = makes_one raw
 one_answer (call x) = does_one (does x) (not_11 x)
 
 -- and the cursors of an opening are equal, every byte
 pub one_opening : (T : Table) (path : Bytes) (s : Lent) (k k' : Code) (q q' : Lent) (c c' : Cursor) → Opens T path s k q c → Opens T path s k' q' c' → One k q k' q' × (c ≡ c')
-one_opening T path s k k' q q' c c' o o' = (z, go (eqb (codeNumber k) 0) refl)
+one_opening T path s k k' q q' c c' o o' = (z, go (eqb (code_number k) 0) refl)
   where
     z : One k q k' q'
-    z = one_answer (call (cursor_at_lem T path)) s k k' q q' o.store o'.store
+    z = one_answer (call (cursor_at_call T path)) s k k' q q' o.store o'.store
 
-    n : codeNumber k ≡ codeNumber k'
+    n : code_number k ≡ code_number k'
     n = z.store.number
 
-    go : (b : Bool) → eqb (codeNumber k) 0 ≡ b → c ≡ c'
-    go true e = o.there (eqb-true (codeNumber k) 0 e) ∙ sym (o'.there (sym n ∙ eqb-true (codeNumber k) 0 e))
-    go false e = o.root (eqb-false (codeNumber k) 0 e) ∙ sym (o'.root (λ y. eqb-false (codeNumber k) 0 e (n ∙ y)))
+    go : (b : Bool) → eqb (code_number k) 0 ≡ b → c ≡ c'
+    go true e = o.there (eqb-true (code_number k) 0 e) ∙ sym (o'.there (sym n ∙ eqb-true (code_number k) 0 e))
+    go false e = o.root (eqb-false (code_number k) 0 e) ∙ sym (o'.root (λ y. eqb-false (code_number k) 0 e (n ∙ y)))
 
 -- ---- lookups
 
@@ -231,12 +231,12 @@ one_lookup prefix path s r r' l l' = one_looked (base path) r r' not_11 (same_lo
 
 -- over two stores that hold one editor a call answers the same number and leaves the same editor
 pub spare_unread : (x : Call) (s s' : Lent) (k k' : Code) (q q' : Lent) → Good s → Good s' → viewed s ≡ viewed s' →
-    Says (call x) s (codeNumber k) q → Says (call x) s' (codeNumber k') q' → (k ≡ k') × (viewed q ≡ viewed q')
+    Says (call x) s (code_number k) q → Says (call x) s' (code_number k') q' → (k ≡ k') × (viewed q ≡ viewed q')
 spare_unread x s s' k k' q q' g g' v d d' =
     let m = (d.done (λ z. (d.refused z).0 g)).1 in
     let m' = (d'.done (λ z. (d'.refused z).0 g')).1 in
-    let z : ◌≡◌ {A = Answer} (record { code = codeNumber k; editor = viewed q }) (record { code = codeNumber k'; editor = viewed q' }) = m ∙ ap (does x) v ∙ sym m' in
-    let h : codeNumber k ≡ 11 → ⊥ = λ e. not_11 x (viewed s) (viewed_valid s g) (ap (λ (a : Answer). a.code) (sym m) ∙ e) in
+    let z : ◌≡◌ {A = Answer} (record { code = code_number k; editor = viewed q }) (record { code = code_number k'; editor = viewed q' }) = m ∙ ap (does x) v ∙ sym m' in
+    let h : code_number k ≡ 11 → ⊥ = λ e. not_11 x (viewed s) (viewed_valid s g) (ap (λ (a : Answer). a.code) (sym m) ∙ e) in
     (one_code k k' h (ap (λ (a : Answer). a.code) z), ap (λ (a : Answer). a.editor) z)
 
 -- a lookup gives the same

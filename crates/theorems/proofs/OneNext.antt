@@ -8,7 +8,7 @@ use borrow.Author.Tests.{eqb-true, eqb-false}
 use lib.Dec.{eqb}
 use Rattle.model.specs.Bytes.{Bytes}
 use Rattle.model.specs.Written.{Request}
-use Rattle.editor_terms.specs.Answers.{codeNumber}
+use Rattle.editor_terms.specs.Answers.{code_number}
 use Rattle.editor_terms.specs.Ids.{id_bytes}
 use Rattle.editor_terms.specs.declared.code.Code.{Code}
 use Rattle.editor_terms.specs.declared.id.Id.{Id}
@@ -24,25 +24,25 @@ use Rattle.theorems.proofs.OneRequest.{spare_unread_request}
 
 -- over a store that holds an editor neither number is 13, and the store holds one afterwards
 pub next_accepted : (id : Id) (s : Lent) (k : Code) (q : Lent) (m : Code) (n : ℕ) (p : Cursor) (before after : Bytes) → Proceeds id s k q m n p before after → Good s →
-    (codeNumber k ≡ 13 → ⊥) × (codeNumber m ≡ 13 → ⊥) × Good q
+    (code_number k ≡ 13 → ⊥) × (code_number m ≡ 13 → ⊥) × Good q
 next_accepted id s k q m n p before after x g =
-    let a = accepted (call (answer_and_request id)) s (codeNumber k) q x.store g in
+    let a = accepted (call (answer_and_request id)) s (code_number k) q x.store g in
     (a.0, λ z. (x.request.refused z).0 a.1, a.1)
 
 module _ (id : Id) (before : Bytes) (k k' : Code) (q q' : Lent) (m m' : Code) (n n' : ℕ) (p p' : Cursor) (after after' : Bytes) where
   -- two answers are the same, and so are the requests that are read, every byte
   pub one_next : (s : Lent) → Proceeds id s k q m n p before after → Proceeds id s k' q' m' n' p' before after' → One k q k' q' × Same m n p after m' n' p' after'
-  one_next s x x' = (z, go (eqb (codeNumber k) 13) refl)
+  one_next s x x' = (z, go (eqb (code_number k) 13) refl)
     where
       z : One k q k' q'
       z = one_answer (call (answer_and_request id)) s k k' q q' x.store x'.store
 
-      go : (b : Bool) → eqb (codeNumber k) 13 ≡ b → Same m n p after m' n' p' after'
+      go : (b : Bool) → eqb (code_number k) 13 ≡ b → Same m n p after m' n' p' after'
       go true e =
-          let w : q ≡ q' = z.store.bytes (omega (arith, eqb-true (codeNumber k) 13 e)) in
+          let w : q ≡ q' = z.store.bytes (omega (arith, eqb-true (code_number k) 13 e)) in
           same_request q before m m' n n' p p' after after' x.request (subst (λ (t : Lent). Requests t m' n' p' before after') (sym w) x'.request)
       go false e =
-          let g : Good s = (x.store.done (eqb-false (codeNumber k) 13 e)).0 in
+          let g : Good s = (x.store.done (eqb-false (code_number k) 13 e)).0 in
           let h : Good q = (next_accepted id s k q m n p before after x g).2 in
           let h' : Good q' = (next_accepted id s k' q' m' n' p' before after' x' g).2 in
           spare_unread_request q q' before m m' n n' p p' after after' h h' z.store.editor x.request x'.request
@@ -62,4 +62,4 @@ module _ (id : Id) (before : Bytes) (k k' : Code) (q q' : Lent) (m m' : Code) (n
 pub next_asks : (is : List Id) (s : Lent) (r rest : List Request) → Reads s r → Nexts is s rest → Asks (map id_bytes is) s (r ++ rest)
 next_asks [] s r rest x e = subst (Reads s) (sym (ap (λ (l : List Request). r ++ l) e ∙ append-nil r)) x
 next_asks (i ∷ is) s r rest x (t, r₁, y, rest₁, n, e) =
-    (r, x, codeNumber y.code, t, y.made.store, r₁ ++ rest₁, next_asks is t r₁ rest₁ y.reads n, ap (λ (l : List Request). r ++ l) e)
+    (r, x, code_number y.code, t, y.made.store, r₁ ++ rest₁, next_asks is t r₁ rest₁ y.reads n, ap (λ (l : List Request). r ++ l) e)

@@ -22,7 +22,7 @@ use Rattle.model.specs.Script.{no#, file, folder}
 use Rattle.model.specs.Order.{idle}
 use Rattle.model.proofs.Basics.{some_none}
 use Rattle.model.proofs.Theorems.{output_short}
-use Rattle.editor_terms.specs.Answers.{codeNumber}
+use Rattle.editor_terms.specs.Answers.{code_number}
 use Rattle.editor_terms.specs.Ids.{word_bytes, id_bytes}
 use Rattle.editor_terms.specs.declared.code.Code.{Code}
 use Rattle.editor.specs.Lent.{Lent, Long, Good, viewed, Does}
@@ -210,11 +210,11 @@ no_pretender s t q ns c g v m d = (ap requested (at_a s t ns g v m) ∙ asks_a, 
 
 module _ (s t q : Lent) (ns : List ℕ) (g : Good s) (v : viewed s ≡ root_only []) (made : Made (map call (put_ab ∷ begin ∷ [])) ns s t)
     (k m : Code) (n : ℕ) (p : Cursor) (before after : Bytes) (x : Proceeds first t k q m n p before after) where
-  left : ◌≡◌ {A = Answer} (record { code = codeNumber k; editor = viewed q }) (record { code = 0; editor = open_at_root })
-  left = (at_root s t ns g v made (codeNumber k) q x.store).0
+  left : ◌≡◌ {A = Answer} (record { code = code_number k; editor = viewed q }) (record { code = 0; editor = open_at_root })
+  left = (at_root s t ns g v made (code_number k) q x.store).0
 
   good : Good q
-  good = (at_root s t ns g v made (codeNumber k) q x.store).1
+  good = (at_root s t ns g v made (code_number k) q x.store).1
 
   asks : requested (viewed q) ≡ some ([] ↝ (folder a (no# 1) ∷ []))
   asks = ap (λ (y : Answer). requested y.editor) left ∙ asks_root
@@ -226,7 +226,7 @@ module _ (s t q : Lent) (ns : List ℕ) (g : Good s) (v : viewed s ≡ root_only
       ∙ ap (λ (o : Option Held). as_request o []) asks
 
   -- it is made where the output is empty too: the root is requested, with 11
-  pub no_skipper : length before ≡ 0 → (codeNumber k ≡ 0) × (codeNumber m ≡ 11) × (requested (viewed q) ≡ some ([] ↝ (folder a (no# 1) ∷ [])))
+  pub no_skipper : length before ≡ 0 → (code_number k ≡ 0) × (code_number m ≡ 11) × (requested (viewed q) ≡ some ([] ↝ (folder a (no# 1) ∷ [])))
   no_skipper l =
       let u = output_short (viewed q) (length before) ([] ↝ (folder a (no# 1) ∷ [])) asks (omega (arith, l, root_long)) in
       (ap (λ (y : Answer). y.code) left, (x.request.done (λ z. (x.request.refused z).0 good)).1.number ∙ ap shown_number u, asks)

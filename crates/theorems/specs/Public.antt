@@ -7,7 +7,7 @@ use Rattle.model.specs.Editor.{Editor as Model}
 use Rattle.model.specs.Formats.{sha1}
 use Rattle.model.specs.Calls as model
 use Rattle.model.specs.Write as write
-use Rattle.editor_terms.specs.Answers.{codeNumber}
+use Rattle.editor_terms.specs.Answers.{code_number}
 use Rattle.editor_terms.specs.Edits.{as_edit}
 use Rattle.editor_terms.specs.Ids.{id_bytes}
 use Rattle.editor_terms.specs.declared.code.Code.{Code}
@@ -22,21 +22,21 @@ use Rattle.editor_write.specs.Requests.{Requests}
 -- `editor`: root::set_root; edit::edit, with the edit, whether it opens a cursor, the prefix and the path; cursor::cursor_at;
 -- `editor_write`: begin::begin, begin::begin_at; answer::answer; next::answer_and_request; fail::fail
 pub data Call : Type 0 where
-  set_root_lem : Bytes → Call
+  set_root : Bytes → Call
   edit : Table → Edit → Bool → Bytes → Bytes → Call
-  cursor_at_lem : Table → Bytes → Call
+  cursor_at_call : Table → Bytes → Call
   begin : Call
-  begin_at_lem : Bytes → Call
+  begin_at : Bytes → Call
   answer answer_and_request : Id → Call
   fail : Call
 
 -- what the contract says that the call does to the editor that is held
 abbrev pub does : Call → Model → model.Answer
-does (set_root_lem raw) = model.set_root sha1 raw
+does (set_root raw) = model.set_root sha1 raw
 does (edit T e opening prefix path) = model.edited sha1 T (as_edit e) opening prefix path
-does (cursor_at_lem T path) = model.opened sha1 T path
+does (cursor_at_call T path) = model.opened sha1 T path
 does begin = write.begun sha1 from_root
-does (begin_at_lem prefix) = write.begun sha1 (from_cursor prefix)
+does (begin_at prefix) = write.begun sha1 (from_cursor prefix)
 does (answer id) = write.answered sha1 (id_bytes id)
 does (answer_and_request id) = write.answered sha1 (id_bytes id)
 does fail = write.failed
@@ -60,11 +60,11 @@ Made (x ∷ xs) (n ∷ ns) s q = (t : Lent) × Says x s n t × Made xs ns t q
 
 -- the opening of a cursor gives the cursor too: at the path where it is done, at the root where it is not
 pub record Opens (T : Table) (path : Bytes) (s : Lent) (k : Code) (q : Lent) (cursor : Cursor) : Type 0 where
-  pub store : Does (model.opened sha1 T path) s (codeNumber k) q
-  pub there : codeNumber k ≡ 0 → cursor ≡ cursor_at path
-  pub root : (codeNumber k ≡ 0 → ⊥) → cursor ≡ cursor_at []
+  pub store : Does (model.opened sha1 T path) s (code_number k) q
+  pub there : code_number k ≡ 0 → cursor ≡ cursor_at path
+  pub root : (code_number k ≡ 0 → ⊥) → cursor ≡ cursor_at []
 
 -- an answer that reads the next request gives that too: it is the request of the store that the answer leaves
 pub record Proceeds (id : Id) (s : Lent) (k : Code) (q : Lent) (next : Code) (n : ℕ) (place : Cursor) (before after : Bytes) : Type 0 where
-  pub store : Does (write.answered sha1 (id_bytes id)) s (codeNumber k) q
+  pub store : Does (write.answered sha1 (id_bytes id)) s (code_number k) q
   pub request : Requests q next n place before after

@@ -9,7 +9,7 @@ use Rattle.model.specs.Calls.{edited}
 use Rattle.model.specs.Write.{begun, answered}
 use Rattle.model.specs.Written.{Request}
 use Rattle.model.specs.Order.{All, Upsert}
-use Rattle.editor_terms.specs.Answers.{codeNumber}
+use Rattle.editor_terms.specs.Answers.{code_number}
 use Rattle.editor_terms.specs.declared.code.Code.{Code}
 use Rattle.editor_terms.specs.declared.id.Id.{Id}
 use Rattle.editor.specs.Lent.{Lent, Does}
@@ -17,7 +17,7 @@ use Rattle.editor.specs.declared.cursor.Cursor.{Cursor}
 use Rattle.editor_write.specs.Requests.{Requests}
 use Rattle.theorems.specs.Public.{Proceeds}
 
--- upserts with one table, made one after the other by the public call (its kind and id are the model's mode and bytes: `asMode kind`, `idBytes id`), and the numbers
+-- upserts with one table, made one after the other by the public call (its kind and id are the model's mode and bytes: `as_mode kind`, `idBytes id`), and the numbers
 -- that it answered
 abbrev pub Upserts : Table → List Upsert → Lent → List ℕ → Lent → Type 0
 Upserts T [] s [] q = s ≡ q
@@ -30,7 +30,7 @@ AllDone ns = All (λ n. n ≡ 0) ns
 
 -- what the host has from the call `request`: the path and the raw tree where it is done, nothing where it is not
 abbrev pub given : Code → ℕ → Cursor → Bytes → List Request
-given code len place out = cond (eqb (codeNumber code) 0) ((take place.len place.prefix, take len out) ∷ []) []
+given code len place out = cond (eqb (code_number code) 0) ((take place.len place.prefix, take len out) ∷ []) []
 
 -- the host reads the request of the store s, into an output of its own with room for the largest raw tree, and has r from it
 pub record Reads (s : Lent) (r : List Request) : Type 0 where

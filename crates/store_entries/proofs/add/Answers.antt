@@ -7,7 +7,7 @@ use Prim.Native.Nat.{ℕ, ◌≤◌}
 use Rattle.model.specs.Map.{find, del, rising}
 use Rattle.model.specs.Search.{searched}
 use Rattle.model.specs.Tree.{key, as_kind, is_tree, with_entry}
-use Rattle.names.specs.Answers.{asMode, entry}
+use Rattle.names.specs.Answers.{as_mode, entry}
 use Rattle.names_compact.specs.Compact.{Run, Tells, unpack}
 use Rattle.store_runs.specs.Runs.{run_of}
 use Rattle.store_slots.specs.View.{tree_of}
@@ -25,7 +25,7 @@ search_twin-twin-requires c =
       c.requires.1,
       rising_run a.width a.r a.plens.now a.paths.now a.tlens.now a.trees.now c.requires.0 a.slot c.requires.2,
       subst (λ (b : Bool). Tells a.width R (searched key (as_kind b a.name.now) (unpack a.width R)) a.place) (sym c.is_tree-as_tree.ensures) c.requires.7,
-      not_yet a.width a.r a.plens.now a.paths.now a.tlens.now a.trees.now c.requires.0 a.slot c.requires.2 (as_kind (is_tree (asMode a.kind)) a.name.now) a.place c.requires.7 c.requires.5,
+      not_yet a.width a.r a.plens.now a.paths.now a.tlens.now a.trees.now c.requires.0 a.slot c.requires.2 (as_kind (is_tree (as_mode a.kind)) a.name.now) a.place c.requires.7 c.requires.5,
     )
 
 pub replace-requires : goal.replace-requires
@@ -42,7 +42,7 @@ first c e =
 pub insert_at-requires : goal.insert_at-requires
 insert_at-requires c =
     let a = c.args in
-    (c.requires.0, c.requires.1, c.requires.2, c.requires.3, c.requires.4, fresh_kept c.requires.0 c.requires.2 (asMode a.kind) a.name.now a.id.now c.is_tree-as_tree.result c.is_tree-as_tree.ensures (first c c.if-twin.false) c.requires.5, fits_then c.requires.0 c.requires.2 (asMode a.kind) a.name.now a.id.now c.is_tree-as_tree.result c.is_tree-as_tree.ensures (first c c.if-twin.false) c.requires.6, c.requires.7)
+    (c.requires.0, c.requires.1, c.requires.2, c.requires.3, c.requires.4, fresh_kept c.requires.0 c.requires.2 (as_mode a.kind) a.name.now a.id.now c.is_tree-as_tree.result c.is_tree-as_tree.ensures (first c c.if-twin.false) c.requires.5, fits_then c.requires.0 c.requires.2 (as_mode a.kind) a.name.now a.id.now c.is_tree-as_tree.result c.is_tree-as_tree.ensures (first c c.if-twin.false) c.requires.6, c.requires.7)
 
 -- the search of the twin found none: the tree without it is the tree
 first-2 : (c : goal.After-slice_known-4-1) → c.search_twin-twin.result.found ≡ false → Edited c.args.width c.args.r c.args.plens.now c.args.paths.now c.args.tlens.now c.args.trees.now c.args.slot (del key (as_kind (not c.is_tree-as_tree.result) c.args.name.now) (tree_of c.args.width c.args.tlens.now c.args.trees.now c.args.slot)) c.args.r c.args.tlens.now c.args.trees.now
@@ -56,4 +56,4 @@ pub returns : goal.returns
 returns c =
     let a = c.args in
     edited_same c.insert_at.ensures (with_entry (entry a.kind a.name.now a.id.now) (tree_of a.width a.tlens.now a.trees.now a.slot))
-    (put_then c.requires.0 c.requires.2 (asMode a.kind) a.name.now a.id.now c.is_tree-as_tree.result c.is_tree-as_tree.ensures (first-2 c c.if-twin.false))
+    (put_then c.requires.0 c.requires.2 (as_mode a.kind) a.name.now a.id.now c.is_tree-as_tree.result c.is_tree-as_tree.ensures (first-2 c c.if-twin.false))

@@ -1,6 +1,6 @@
 -- `store_entries::replace` meets its contract: the model removes the twin and puts the entry in. Assumes nothing.
 use Rattle.model.specs.Tree.{with_entry}
-use Rattle.names.specs.Answers.{asMode, entry}
+use Rattle.names.specs.Answers.{as_mode, entry}
 use Rattle.store_slots.specs.View.{tree_of}
 use Rattle.store_entries.proofs.EditLaws.{edited_same, edited_twice, put_then, fresh_kept, fits_then}
 use Rattle.store_entries.proofs.replace.Goals as goal
@@ -8,9 +8,9 @@ use Rattle.store_entries.proofs.replace.Goals as goal
 pub insert_key-requires : goal.insert_key-requires
 insert_key-requires c =
     let a = c.args in
-    (c.remove_key-one.ensures.laid, c.requires.1, c.remove_key-one.ensures.used, c.requires.3, c.requires.4, fresh_kept c.requires.0 c.requires.2 (asMode a.kind) a.name.now a.id.now c.is_tree-other.result c.is_tree-other.ensures c.remove_key-one.ensures c.requires.5, fits_then c.requires.0 c.requires.2 (asMode a.kind) a.name.now a.id.now c.is_tree-other.result c.is_tree-other.ensures c.remove_key-one.ensures c.requires.6)
+    (c.remove_key-one.ensures.laid, c.requires.1, c.remove_key-one.ensures.used, c.requires.3, c.requires.4, fresh_kept c.requires.0 c.requires.2 (as_mode a.kind) a.name.now a.id.now c.is_tree-other.result c.is_tree-other.ensures c.remove_key-one.ensures c.requires.5, fits_then c.requires.0 c.requires.2 (as_mode a.kind) a.name.now a.id.now c.is_tree-other.result c.is_tree-other.ensures c.remove_key-one.ensures c.requires.6)
 
 pub returns : goal.returns
 returns c =
     let a = c.args in
-    edited_same (edited_twice c.remove_key-one.ensures c.insert_key.ensures) (with_entry (entry a.kind a.name.now a.id.now) (tree_of a.width a.tlens.now a.trees.now a.slot)) (put_then c.requires.0 c.requires.2 (asMode a.kind) a.name.now a.id.now c.is_tree-other.result c.is_tree-other.ensures c.remove_key-one.ensures)
+    edited_same (edited_twice c.remove_key-one.ensures c.insert_key.ensures) (with_entry (entry a.kind a.name.now a.id.now) (tree_of a.width a.tlens.now a.trees.now a.slot)) (put_then c.requires.0 c.requires.2 (as_mode a.kind) a.name.now a.id.now c.is_tree-other.result c.is_tree-other.ensures c.remove_key-one.ensures)

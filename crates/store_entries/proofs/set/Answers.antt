@@ -6,7 +6,7 @@ use Prim.Native.Nat.{ℕ}
 use native.Mathlib.Omega.{arith}
 use Rattle.model.specs.Search.{searched}
 use Rattle.model.specs.Tree.{key, as_kind, is_tree}
-use Rattle.names.specs.Answers.{asMode}
+use Rattle.names.specs.Answers.{as_mode}
 use Rattle.names_compact.specs.Compact.{Run, Tells, unpack}
 use Rattle.names_compact.proofs.CompactLaws.{name_short}
 use Rattle.store_runs.specs.Runs.{run_of}
@@ -20,7 +20,7 @@ search-place-requires c =
     (subst (Run a.width) (sym c.run.ensures) (searched_run a.width a.r a.plens.now a.paths.now a.tlens.now a.trees.now c.requires.0 a.slot c.requires.2.low), c.requires.1)
 
 -- what the search said of the slot's run
-told : (c : goal.After-rewrite-arg-1) → Tells c.args.width (run_of c.args.tlens.now c.args.trees.now c.args.slot) (searched key (as_kind (is_tree (asMode c.args.kind)) c.args.name.now) (unpack c.args.width (run_of c.args.tlens.now c.args.trees.now c.args.slot))) c.search-place.result
+told : (c : goal.After-rewrite-arg-1) → Tells c.args.width (run_of c.args.tlens.now c.args.trees.now c.args.slot) (searched key (as_kind (is_tree (as_mode c.args.kind)) c.args.name.now) (unpack c.args.width (run_of c.args.tlens.now c.args.trees.now c.args.slot))) c.search-place.result
 told c =
     let a = c.args in
     subst (λ (b : Bool). Tells a.width (run_of a.tlens.now a.trees.now a.slot) (searched key (as_kind b a.name.now) (unpack a.width (run_of a.tlens.now a.trees.now a.slot))) c.search-place.result) c.is_tree-as_tree.ensures
@@ -29,10 +29,10 @@ told c =
 pub rewrite-requires : goal.rewrite-requires
 rewrite-requires c =
     let a = c.args in
-    (c.requires.0.trees_sound, omega (arith, c.requires.0.tlens_64, c.requires.2.low), over_fits a.width a.r a.plens.now a.paths.now a.tlens.now a.trees.now c.requires.0 a.slot c.requires.2 (asMode a.kind) a.name.now a.id.now c.requires.3 c.requires.4 c.search-place.result (told c) c.if-place.true, name_short a.name.now c.requires.4)
+    (c.requires.0.trees_sound, omega (arith, c.requires.0.tlens_64, c.requires.2.low), over_fits a.width a.r a.plens.now a.paths.now a.tlens.now a.trees.now c.requires.0 a.slot c.requires.2 (as_mode a.kind) a.name.now a.id.now c.requires.3 c.requires.4 c.search-place.result (told c) c.if-place.true, name_short a.name.now c.requires.4)
 
 -- what the search said of the slot's run
-told-2 : (c : goal.After-slice_known-then-place-1) → Tells c.args.width (run_of c.args.tlens.now c.args.trees.now c.args.slot) (searched key (as_kind (is_tree (asMode c.args.kind)) c.args.name.now) (unpack c.args.width (run_of c.args.tlens.now c.args.trees.now c.args.slot))) c.search-place.result
+told-2 : (c : goal.After-slice_known-then-place-1) → Tells c.args.width (run_of c.args.tlens.now c.args.trees.now c.args.slot) (searched key (as_kind (is_tree (as_mode c.args.kind)) c.args.name.now) (unpack c.args.width (run_of c.args.tlens.now c.args.trees.now c.args.slot))) c.search-place.result
 told-2 c =
     let a = c.args in
     subst (λ (b : Bool). Tells a.width (run_of a.tlens.now a.trees.now a.slot) (searched key (as_kind b a.name.now) (unpack a.width (run_of a.tlens.now a.trees.now a.slot))) c.search-place.result) c.is_tree-as_tree.ensures
@@ -41,10 +41,10 @@ told-2 c =
 pub returns-then-place : goal.returns-then-place
 returns-then-place c =
     let a = c.args in
-    rewriting a.width a.r a.plens.now a.paths.now a.tlens.now a.trees.now c.requires.0 a.slot c.requires.2 (asMode a.kind) a.name.now a.id.now c.requires.3 c.requires.4 c.search-place.result (told-2 c) c.if-place.true c.rewrite.new.trees c.rewrite.ensures c.rewrite.auto.trees
+    rewriting a.width a.r a.plens.now a.paths.now a.tlens.now a.trees.now c.requires.0 a.slot c.requires.2 (as_mode a.kind) a.name.now a.id.now c.requires.3 c.requires.4 c.search-place.result (told-2 c) c.if-place.true c.rewrite.new.trees c.rewrite.ensures c.rewrite.auto.trees
 
 -- what the search said of the slot's run
-told-3 : (c : goal.After-add-arg-2-1) → Tells c.args.width (run_of c.args.tlens.now c.args.trees.now c.args.slot) (searched key (as_kind (is_tree (asMode c.args.kind)) c.args.name.now) (unpack c.args.width (run_of c.args.tlens.now c.args.trees.now c.args.slot))) c.search-place.result
+told-3 : (c : goal.After-add-arg-2-1) → Tells c.args.width (run_of c.args.tlens.now c.args.trees.now c.args.slot) (searched key (as_kind (is_tree (as_mode c.args.kind)) c.args.name.now) (unpack c.args.width (run_of c.args.tlens.now c.args.trees.now c.args.slot))) c.search-place.result
 told-3 c =
     let a = c.args in
     subst (λ (b : Bool). Tells a.width (run_of a.tlens.now a.trees.now a.slot) (searched key (as_kind b a.name.now) (unpack a.width (run_of a.tlens.now a.trees.now a.slot))) c.search-place.result) c.is_tree-as_tree.ensures
@@ -53,4 +53,4 @@ told-3 c =
 pub add-requires : goal.add-requires
 add-requires c =
     let a = c.args in
-    (c.requires.0, c.requires.1, c.requires.2, c.requires.3, c.requires.4, none_there a.width a.r a.plens.now a.paths.now a.tlens.now a.trees.now c.requires.0 a.slot c.requires.2 (asMode a.kind) a.name.now a.id.now c.requires.3 c.requires.4 c.search-place.result (told-3 c) c.if-place.false, c.requires.5, told-3 c)
+    (c.requires.0, c.requires.1, c.requires.2, c.requires.3, c.requires.4, none_there a.width a.r a.plens.now a.paths.now a.tlens.now a.trees.now c.requires.0 a.slot c.requires.2 (as_mode a.kind) a.name.now a.id.now c.requires.3 c.requires.4 c.search-place.result (told-3 c) c.if-place.false, c.requires.5, told-3 c)

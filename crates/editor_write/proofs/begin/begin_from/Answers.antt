@@ -5,7 +5,7 @@ use borrow.Author.Tests.{not-true, not-false}
 use Rattle.model.specs.Formats.{sha1}
 use Rattle.model.specs.Write.{begun}
 use Rattle.store_slots.specs.View.{start_of}
-use Rattle.editor_terms.specs.Answers.{codeNumber}
+use Rattle.editor_terms.specs.Answers.{code_number}
 use Rattle.editor.specs.Lent.{Lent, lent, Good}
 use Rattle.editor.proofs.LookLaws.{trees_long}
 use Rattle.editor.proofs.RootLaws.{refuses_damaged}
@@ -123,4 +123,4 @@ held-7 c = c.holds.ensures.yes (not-false _ c.if-not-holds.false-raw)
 pub returns : goal.returns
 returns c =
     let a = c.args in
-    does_whole (store-7 c) (held-7 c) c.begin_held.result.ed c.begin_held.new.plens c.begin_held.new.paths c.begin_held.new.tlens c.begin_held.new.trees c.begin_held.new.order c.begin_held.auto.plens c.begin_held.auto.paths c.begin_held.auto.tlens c.begin_held.auto.trees c.begin_held.auto.order (begun sha1 (start_of a.from a.prefix.now)) (codeNumber c.begin_held.result.code) c.begin_held.ensures
+    does_whole (store-7 c) (held-7 c) c.begin_held.result.ed c.begin_held.new.plens c.begin_held.new.paths c.begin_held.new.tlens c.begin_held.new.trees c.begin_held.new.order c.begin_held.auto.plens c.begin_held.auto.paths c.begin_held.auto.tlens c.begin_held.auto.trees c.begin_held.auto.order (begun sha1 (start_of a.from a.prefix.now)) (code_number c.begin_held.result.code) c.begin_held.ensures

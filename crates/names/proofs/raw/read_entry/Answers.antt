@@ -3,7 +3,7 @@ use native.Mathlib.Omega.{arith}
 use Prim.Native.Nat.{◌+◌}
 use mathlib.Core.Path.{◌≡◌}
 use Rattle.names.specs.declared.mode.ModeRead.TheVariants.{Kind, Refused}
-use Rattle.names.specs.Answers.{modeRead}
+use Rattle.names.specs.Answers.{mode_read}
 use Rattle.names.specs.Places.{found_at, read_entry_at}
 use Rattle.names.proofs.EntryLaws.{at_end, no_space, no_nul, no_id, whole}
 use Rattle.names.proofs.raw.read_entry.Goals as goal
@@ -37,7 +37,7 @@ at-mode : (c : goal.In-Kind) → let a = c.args in
     let m = c.index_of-m.result in
     let n = c.index_of-n.result in
     let id = a.at + m + 1 + n + 1 in
-    found_at (modeRead c.from_octal.result) (a.at + m + 1) n id (id + a.width) ≡ read_entry_at a.raw.now a.at a.width
+    found_at (mode_read c.from_octal.result) (a.at + m + 1) n id (id + a.width) ≡ read_entry_at a.raw.now a.at a.width
 at-mode c =
     whole _ _ _
     c.index_of-m.ensures
@@ -59,7 +59,7 @@ at-mode-2 : (c : goal.In-Refused) → let a = c.args in
     let m = c.index_of-m.result in
     let n = c.index_of-n.result in
     let id = a.at + m + 1 + n + 1 in
-    found_at (modeRead c.from_octal.result) (a.at + m + 1) n id (id + a.width) ≡ read_entry_at a.raw.now a.at a.width
+    found_at (mode_read c.from_octal.result) (a.at + m + 1) n id (id + a.width) ≡ read_entry_at a.raw.now a.at a.width
 at-mode-2 c =
     whole _ _ _
     c.index_of-m.ensures

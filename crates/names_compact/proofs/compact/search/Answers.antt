@@ -1,6 +1,6 @@
 -- `names_compact::compact::search` meets its contract: each turn is one of the definition's halving, on the same part of the entries, with the place of its first. Assumes nothing.
 use Rattle.names_compact.proofs.CompactSearchLaws.{seek_all, seek_low, seek_high, seek_hit, seek_none, seek_moved, entries_fewer}
-use Rattle.names.specs.Answers.{asOrdering}
+use Rattle.names.specs.Answers.{as_ordering}
 use mathlib.Core.Path.{refl, sym, ap, ◌∙◌}
 use Prim.Native.Nat.{◌/◌}
 use native.Mathlib.Omega.{arith}
@@ -29,7 +29,7 @@ pub returns-in-Equal : goal.returns-in-Equal
 returns-in-Equal c =
     let l = c.loop-len in
     seek_hit l.invariant (l.len / 2) c.loop-len-test.true refl c.skip-a.result c.skip-a.ensures
-    (sym (ap asOrdering c.in-Equal.is) ∙ c.order_at-o.ensures)
+    (sym (ap as_ordering c.in-Equal.is) ∙ c.order_at-o.ensures)
 
 pub overflow_add-lo-in-Greater : goal.overflow_add-lo-in-Greater
 overflow_add-lo-in-Greater c = omega (arith, c.loop-len.invariant.room, entries_fewer c.args.width c.args.tree.now c.requires.0)
@@ -59,8 +59,8 @@ loop-len-preserved c =
     let t = c.loop-len-test.true in
     let o = c.order_at-o.ensures in
     elim c.match-o.branch [
-      | in-Less w ↦ seek_moved (seek_low l.invariant m t refl (sym (ap asOrdering w.in-Less.is) ∙ o)) c.match-o.len c.match-o.lo c.match-o.at w.len-is w.lo-is w.at-is
-      | in-Greater w ↦ seek_moved (seek_high l.invariant m t refl w.skip-at.result w.skip-at.ensures (sym (ap asOrdering w.in-Greater.is) ∙ o)) c.match-o.len c.match-o.lo c.match-o.at w.len-is w.lo-is w.at-is
+      | in-Less w ↦ seek_moved (seek_low l.invariant m t refl (sym (ap as_ordering w.in-Less.is) ∙ o)) c.match-o.len c.match-o.lo c.match-o.at w.len-is w.lo-is w.at-is
+      | in-Greater w ↦ seek_moved (seek_high l.invariant m t refl w.skip-at.result w.skip-at.ensures (sym (ap as_ordering w.in-Greater.is) ∙ o)) c.match-o.len c.match-o.lo c.match-o.at w.len-is w.lo-is w.at-is
     ]
 
 pub returns : goal.returns

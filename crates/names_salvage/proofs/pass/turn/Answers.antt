@@ -5,7 +5,7 @@ use mathlib.Core.Option.{none, some}
 use lib.ListN.{take, drop}
 use Rattle.model.specs.Raw.{mode_of}
 use Rattle.model.specs.Tree.{good_name}
-use Rattle.names.specs.Answers.{asMode, modeRead}
+use Rattle.names.specs.Answers.{as_mode, mode_read}
 use Rattle.names_salvage.proofs.KeepLaws.{turned}
 use Rattle.names_salvage.proofs.PassLaws.{enters, goes_on_lem, mend_as, mend_bad_name, turned_as, held_bad_name, held_bad_mode}
 use Rattle.names_salvage.proofs.pass.turn.Goals as goal
@@ -15,8 +15,8 @@ name-good : (c : goal.After-is_tree) → let a = c.args in good_name (take a.nam
 name-good c = ap good_name (sym c.between-name.ensures) ∙ sym c.good_name.ensures ∙ c.if-good_name.true
 
 -- the mode is the one that was read
-mode_is : (c : goal.After-is_tree) → let a = c.args in mode_of (take a.mode_len (drop a.t.at a.raw.now)) ≡ some (asMode c.in-Kind.kind)
-mode_is c = ap mode_of (sym c.between.ensures) ∙ sym c.from_octal.ensures ∙ ap modeRead c.in-Kind.is
+mode_is : (c : goal.After-is_tree) → let a = c.args in mode_of (take a.mode_len (drop a.t.at a.raw.now)) ≡ some (as_mode c.in-Kind.kind)
+mode_is c = ap mode_of (sym c.between.ensures) ∙ sym c.from_octal.ensures ∙ ap mode_read c.in-Kind.is
 
 pub keep-requires : goal.keep-requires
 keep-requires c =
@@ -28,8 +28,8 @@ name-good-2 : (c : goal.After-slice_known-in-Kind-1) → let a = c.args in good_
 name-good-2 c = ap good_name (sym c.between-name.ensures) ∙ sym c.good_name.ensures ∙ c.if-good_name.true
 
 -- the mode is the one that was read
-mode_is-2 : (c : goal.After-slice_known-in-Kind-1) → let a = c.args in mode_of (take a.mode_len (drop a.t.at a.raw.now)) ≡ some (asMode c.in-Kind.kind)
-mode_is-2 c = ap mode_of (sym c.between.ensures) ∙ sym c.from_octal.ensures ∙ ap modeRead c.in-Kind.is
+mode_is-2 : (c : goal.After-slice_known-in-Kind-1) → let a = c.args in mode_of (take a.mode_len (drop a.t.at a.raw.now)) ≡ some (as_mode c.in-Kind.kind)
+mode_is-2 c = ap mode_of (sym c.between.ensures) ∙ sym c.from_octal.ensures ∙ ap mode_read c.in-Kind.is
 
 pub returns-in-Kind : goal.returns-in-Kind
 returns-in-Kind c =
@@ -43,7 +43,7 @@ name-good-3 c = ap good_name (sym c.between-name.ensures) ∙ sym c.good_name.en
 pub returns-in-Refused : goal.returns-in-Refused
 returns-in-Refused c =
     λ w m h st.
-    turned_as (sym (mend_as _ m none (name-good-3 c) (ap mode_of (sym c.between.ensures) ∙ sym c.from_octal.ensures ∙ ap modeRead c.in-Refused.is)))
+    turned_as (sym (mend_as _ m none (name-good-3 c) (ap mode_of (sym c.between.ensures) ∙ sym c.from_octal.ensures ∙ ap mode_read c.in-Refused.is)))
     (turned _ c.requires.1 (held_bad_mode h (goes_on_lem st) st.within) refl)
 
 pub returns-else-good_name : goal.returns-else-good_name

@@ -6,7 +6,7 @@ use lib.ListN.{get_or, take}
 use lib.Seq.{length-take-le}
 use Rattle.model.specs.Bytes.{cmp}
 use Rattle.model.specs.Tree.{Tree, as_kind, key}
-use Rattle.names.specs.Answers.{asOrdering}
+use Rattle.names.specs.Answers.{as_ordering}
 use Rattle.names_compact.specs.Compact.{blank}
 use Rattle.names_salvage.specs.Answers.{Lists}
 use Rattle.names_salvage.proofs.TableLaws.{seek_all, seek_low, seek_high, seek_hit, seek_none, listed}
@@ -50,12 +50,12 @@ room-4 : (c : goal.In-Less) → c.loop-len.lo + c.loop-len.len / 2 < c.args.n
 room-4 c = omega (arith, c.loop-len-test.true, c.loop-len.invariant.room, length-take-le c.args.n c.args.table.now c.requires.1)
 
 -- what the order of the name and that entry says
-said : (c : goal.In-Less) → {o : Ordering} → o ≡ asOrdering c.order_at.result → (t : Tree) → Lists c.args.raw.now (take c.args.n c.args.table.now) t →
+said : (c : goal.In-Less) → {o : Ordering} → o ≡ as_ordering c.order_at.result → (t : Tree) → Lists c.args.raw.now (take c.args.n c.args.table.now) t →
     o ≡ cmp (as_kind c.args.tree c.args.name.now) (key (get_or t (c.loop-len.lo + c.loop-len.len / 2) blank))
 said c e t l = e ∙ c.order_at.ensures _ (listed c.args.table.now c.args.n l (c.loop-len.lo + c.loop-len.len / 2) (room-4 c) c.requires.1)
 
 pub loop-len-preserved-in-Less : goal.loop-len-preserved-in-Less
-loop-len-preserved-in-Less c = seek_low c.loop-len.invariant (c.loop-len.len / 2) c.loop-len-test.true refl (said c (sym (ap asOrdering c.in-Less.is)))
+loop-len-preserved-in-Less c = seek_low c.loop-len.invariant (c.loop-len.len / 2) c.loop-len-test.true refl (said c (sym (ap as_ordering c.in-Less.is)))
 
 -- the entry in the middle of what is left is there
 room-5 : (c : goal.In-Equal) → c.loop-len.lo + c.loop-len.len / 2 < c.args.n
@@ -65,12 +65,12 @@ pub overflow_add-result : goal.overflow_add-result
 overflow_add-result c = omega (arith, room-5 c)
 
 -- what the order of the name and that entry says
-said-2 : (c : goal.In-Equal) → {o : Ordering} → o ≡ asOrdering c.order_at.result → (t : Tree) → Lists c.args.raw.now (take c.args.n c.args.table.now) t →
+said-2 : (c : goal.In-Equal) → {o : Ordering} → o ≡ as_ordering c.order_at.result → (t : Tree) → Lists c.args.raw.now (take c.args.n c.args.table.now) t →
     o ≡ cmp (as_kind c.args.tree c.args.name.now) (key (get_or t (c.loop-len.lo + c.loop-len.len / 2) blank))
 said-2 c e t l = e ∙ c.order_at.ensures _ (listed c.args.table.now c.args.n l (c.loop-len.lo + c.loop-len.len / 2) (room-5 c) c.requires.1)
 
 pub returns-in-Equal : goal.returns-in-Equal
-returns-in-Equal c = seek_hit c.loop-len.invariant (c.loop-len.len / 2) c.loop-len-test.true refl (said-2 c (sym (ap asOrdering c.in-Equal.is)))
+returns-in-Equal c = seek_hit c.loop-len.invariant (c.loop-len.len / 2) c.loop-len-test.true refl (said-2 c (sym (ap as_ordering c.in-Equal.is)))
 
 -- the entry in the middle of what is left is there
 room-6 : (c : goal.In-Greater) → c.loop-len.lo + c.loop-len.len / 2 < c.args.n
@@ -89,12 +89,12 @@ pub loop-len-smaller : goal.loop-len-smaller
 loop-len-smaller c = omega (arith, c.loop-len-test.true)
 
 -- what the order of the name and that entry says
-said-3 : (c : goal.In-Greater) → {o : Ordering} → o ≡ asOrdering c.order_at.result → (t : Tree) → Lists c.args.raw.now (take c.args.n c.args.table.now) t →
+said-3 : (c : goal.In-Greater) → {o : Ordering} → o ≡ as_ordering c.order_at.result → (t : Tree) → Lists c.args.raw.now (take c.args.n c.args.table.now) t →
     o ≡ cmp (as_kind c.args.tree c.args.name.now) (key (get_or t (c.loop-len.lo + c.loop-len.len / 2) blank))
 said-3 c e t l = e ∙ c.order_at.ensures _ (listed c.args.table.now c.args.n l (c.loop-len.lo + c.loop-len.len / 2) (room-6 c) c.requires.1)
 
 pub loop-len-preserved : goal.loop-len-preserved
-loop-len-preserved c = seek_high c.loop-len.invariant (c.loop-len.len / 2) c.loop-len-test.true refl (said-3 c (sym (ap asOrdering c.in-Greater.is)))
+loop-len-preserved c = seek_high c.loop-len.invariant (c.loop-len.len / 2) c.loop-len-test.true refl (said-3 c (sym (ap as_ordering c.in-Greater.is)))
 
 pub returns : goal.returns
 returns c = seek_none c.loop-len.invariant c.loop-len-test.false

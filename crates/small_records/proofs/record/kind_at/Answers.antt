@@ -8,7 +8,7 @@ use Rattle.small_records.proofs.PlaceLaws.{kind_is, no_kind}
 use Rattle.small_records.specs.Records.{kind_key}
 use Rattle.lines.specs.Places.{told}
 use Rattle.small_records.specs.Places.{kind_at}
-use Rattle.small_records.specs.Answers.{opRead, asVerb}
+use Rattle.small_records.specs.Answers.{op_read, as_verb}
 use Rattle.small_records.specs.declared.record.OpRead.TheVariants.{Op, Refused}
 use Rattle.small_records.proofs.record.kind_at.Goals as goal
 
@@ -26,10 +26,10 @@ overflow_add-result-in-Op c = omega (arith, ends c)
 
 -- where the value has been read, what it says decides
 at-word : (c : goal.In-Op) → let a = c.args in
-    told (opRead c.op_of.result) (c.in-At.at + c.in-At.len + 1) ≡ kind_at a.input.now (asVerb a.verb) a.at
+    told (op_read c.op_of.result) (c.in-At.at + c.in-At.len + 1) ≡ kind_at a.input.now (as_verb a.verb) a.at
 at-word c =
     let a = c.args in
-    kind_is a.input.now a.at (asVerb a.verb) c.value_at.ensures c.in-At.is c.between.ensures c.op_of.ensures
+    kind_is a.input.now a.at (as_verb a.verb) c.value_at.ensures c.in-At.is c.between.ensures c.op_of.ensures
 
 pub returns-in-Op : goal.returns-in-Op
 returns-in-Op c =
@@ -38,10 +38,10 @@ returns-in-Op c =
 
 -- where the value has been read, what it says decides
 at-word-2 : (c : goal.In-Refused) → let a = c.args in
-    told (opRead c.op_of.result) (c.in-At.at + c.in-At.len + 1) ≡ kind_at a.input.now (asVerb a.verb) a.at
+    told (op_read c.op_of.result) (c.in-At.at + c.in-At.len + 1) ≡ kind_at a.input.now (as_verb a.verb) a.at
 at-word-2 c =
     let a = c.args in
-    kind_is a.input.now a.at (asVerb a.verb) c.value_at.ensures c.in-At.is c.between.ensures c.op_of.ensures
+    kind_is a.input.now a.at (as_verb a.verb) c.value_at.ensures c.in-At.is c.between.ensures c.op_of.ensures
 
 pub returns-in-Refused : goal.returns-in-Refused
 returns-in-Refused c =
@@ -51,4 +51,4 @@ returns-in-Refused c =
 pub returns-in-Broken : goal.returns-in-Broken
 returns-in-Broken c =
     let a = c.args in
-    no_kind a.input.now a.at (asVerb a.verb) c.value_at.ensures c.in-Broken.is
+    no_kind a.input.now a.at (as_verb a.verb) c.value_at.ensures c.in-Broken.is

@@ -8,7 +8,7 @@ use Rattle.small_records.proofs.PlaceLaws.{op_is, no_op}
 use Rattle.small_records.specs.Records.{op_key}
 use Rattle.lines.specs.Places.{told}
 use Rattle.small_records.specs.Places.{op_at}
-use Rattle.small_records.specs.Answers.{verbRead}
+use Rattle.small_records.specs.Answers.{verb_read}
 use Rattle.small_records.specs.declared.record.VerbRead.TheVariants.{Verb, Refused}
 use Rattle.small_records.proofs.record.op_at.Goals as goal
 
@@ -26,7 +26,7 @@ overflow_add-result-in-Verb c = omega (arith, ends c)
 
 -- where the value has been read, what it says decides
 at-word : (c : goal.In-Verb) → let a = c.args in
-    told (verbRead c.verb_of.result) (c.in-At.at + c.in-At.len + 1) ≡ op_at a.input.now a.at
+    told (verb_read c.verb_of.result) (c.in-At.at + c.in-At.len + 1) ≡ op_at a.input.now a.at
 at-word c =
     let a = c.args in
     op_is a.input.now a.at c.value_at.ensures c.in-At.is c.between.ensures c.verb_of.ensures
@@ -38,7 +38,7 @@ returns-in-Verb c =
 
 -- where the value has been read, what it says decides
 at-word-2 : (c : goal.In-Refused) → let a = c.args in
-    told (verbRead c.verb_of.result) (c.in-At.at + c.in-At.len + 1) ≡ op_at a.input.now a.at
+    told (verb_read c.verb_of.result) (c.in-At.at + c.in-At.len + 1) ≡ op_at a.input.now a.at
 at-word-2 c =
     let a = c.args in
     op_is a.input.now a.at c.value_at.ensures c.in-At.is c.between.ensures c.verb_of.ensures

@@ -2,16 +2,16 @@
 use mathlib.Core.Path.{◌≡◌, ap}
 use Rattle.small_records.proofs.PlaceLaws.{kind_of_upsert, kind_of_removal, kind_in_removal}
 use Rattle.small_records.specs.Records.{put_as, op_of}
-use Rattle.small_records.specs.Answers.{asVerb}
-use Rattle.names.specs.Answers.{modeRead}
+use Rattle.small_records.specs.Answers.{as_verb}
+use Rattle.names.specs.Answers.{mode_read}
 use Rattle.names.specs.declared.mode.ModeRead.TheVariants.{Kind, Refused}
 use Rattle.model.specs.Walk.{ANY, LEAF}
 use Rattle.small_records.proofs.record.op_of.Goals as goal
 
 -- an upsert's kind: what the mode's text says decides
 at-mode : (c : goal.In-Kind) → let a = c.args in
-    put_as (modeRead c.from_octal.result) ≡ op_of (asVerb a.verb) a.text.now
-at-mode c = kind_of_upsert _ (ap asVerb c.in-Upsert.is) c.from_octal.ensures
+    put_as (mode_read c.from_octal.result) ≡ op_of (as_verb a.verb) a.text.now
+at-mode c = kind_of_upsert _ (ap as_verb c.in-Upsert.is) c.from_octal.ensures
 
 pub returns-in-Kind : goal.returns-in-Kind
 returns-in-Kind c =
@@ -20,8 +20,8 @@ returns-in-Kind c =
 
 -- an upsert's kind: what the mode's text says decides
 at-mode-2 : (c : goal.In-Refused) → let a = c.args in
-    put_as (modeRead c.from_octal.result) ≡ op_of (asVerb a.verb) a.text.now
-at-mode-2 c = kind_of_upsert _ (ap asVerb c.in-Upsert.is) c.from_octal.ensures
+    put_as (mode_read c.from_octal.result) ≡ op_of (as_verb a.verb) a.text.now
+at-mode-2 c = kind_of_upsert _ (ap as_verb c.in-Upsert.is) c.from_octal.ensures
 
 pub returns-in-Refused : goal.returns-in-Refused
 returns-in-Refused c =
@@ -29,13 +29,13 @@ returns-in-Refused c =
     rw e at (at-mode-2 c)
 
 pub returns-then-text-eq0 : goal.returns-then-text-eq0
-returns-then-text-eq0 c = kind_of_removal _ (ap asVerb c.in-Remove.is) c.if-text-eq0.true
+returns-then-text-eq0 c = kind_of_removal _ (ap as_verb c.in-Remove.is) c.if-text-eq0.true
 
 pub returns-else-text-eq0 : goal.returns-else-text-eq0
-returns-else-text-eq0 c = kind_in_removal _ ANY (ap asVerb c.in-Remove.is) c.if-text-eq0.false
+returns-else-text-eq0 c = kind_in_removal _ ANY (ap as_verb c.in-Remove.is) c.if-text-eq0.false
 
 pub returns-then-text-eq0-2 : goal.returns-then-text-eq0-2
-returns-then-text-eq0-2 c = kind_of_removal _ (ap asVerb c.in-Leaf.is) c.if-text-eq0-2.true
+returns-then-text-eq0-2 c = kind_of_removal _ (ap as_verb c.in-Leaf.is) c.if-text-eq0-2.true
 
 pub returns-else-text-eq0-2 : goal.returns-else-text-eq0-2
-returns-else-text-eq0-2 c = kind_in_removal _ LEAF (ap asVerb c.in-Leaf.is) c.if-text-eq0-2.false
+returns-else-text-eq0-2 c = kind_in_removal _ LEAF (ap as_verb c.in-Leaf.is) c.if-text-eq0-2.false

@@ -7,13 +7,13 @@ use lib.ListN.{length}
 use Rattle.model.specs.Bytes.{Bytes}
 use Rattle.model.specs.Raw.{raw_entry}
 use Rattle.model.proofs.ValidLaws.{octal_length}
-use Rattle.names.specs.Answers.{asMode, entry}
+use Rattle.names.specs.Answers.{as_mode, entry}
 use Rattle.names.specs.declared.mode.EntryKind.{EntryKind}
 use Rattle.names.proofs.WriteLaws.{entry_long, length_splice}
 use Rattle.test_git.proofs.again.put_next.Goals as goal
 
 short : (kind : EntryKind) (name id : Bytes) → length name ≤ 512 → length id ≤ 64 → length (raw_entry (entry kind name id)) ≤ 1024
-short kind name id a b = omega (arith, entry_long (entry kind name id), octal_length (asMode kind))
+short kind name id a b = omega (arith, entry_long (entry kind name id), octal_length (as_mode kind))
 
 pub put_entry-requires : goal.put_entry-requires
 put_entry-requires c =
