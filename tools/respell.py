@@ -17,7 +17,7 @@ TOKEN = re.compile(r"--[^\n]*|\"(?:[^\"\\]|\\.)*\"|" + WORD)
 DECL = re.compile(r"^( *)((?:unfoldable |abbrev |pattern )*(?:pub )?)((?:" + WORD + r" +)*" + WORD + r")( *(?:\{[^{}]*\} *)?): ", re.M)
 HUMP = re.compile(r"(?<=[a-z0-9])(?=[A-Z])")
 # names that would meet another in the same file, and are no lemmas
-OTHER = {"cursor-at": "cursor_at_call", "from-cursor": "from_a_cursor", "begin-at": "begin_at", "set-root": "set_root"}
+OTHER = {"cursor-at": "cursor_at_call", "from-cursor": "from_a_cursor", "begin-at": "begin_at", "set-root": "set_root_call"}
 HEADS = ("let", "in", "use", "module", "λ", "mod", "elim", "record", "infixl", "infixr", "infix", "data", "rw", "ruleset")
 
 

@@ -43,7 +43,7 @@ use Rattle.editor.specs.declared.cursor.Cursor.{Cursor}
 use Rattle.editor.proofs.SameAnswers.{Same, same_look, same_does, same_makes}
 use Rattle.editor.proofs.LookLaws.{refusal_of, looked_low}
 use Rattle.editor_write.proofs.Theorems.{viewed_valid}
-use Rattle.theorems.specs.Public.{Call, does, Public, new, call, Says, Opens, set_root, edit, cursor_at_call, begin, begin_at, answer, answer_and_request, fail}
+use Rattle.theorems.specs.Public.{Call, does, Public, new, call, Says, Opens, set_root_call, edit, cursor_at_call, begin, begin_at, answer, answer_and_request, fail}
 
 -- ---- the number decides the case
 
@@ -172,7 +172,7 @@ unfolding opened
 opened_not T path E v = edited_not T (walks.upsert TREE (null sha1.width)) true [] path E v
 
 not_11 : (x : Call) (E : Model) → valid sha1 E ≡ true → Not11 (does x E)
-not_11 (set_root raw) E v = root_not raw E
+not_11 (set_root_call raw) E v = root_not raw E
 not_11 (edit T e opening prefix path) E v = edited_not T (as_edit e) opening prefix path E v
 not_11 (cursor_at_call T path) E v = opened_not T path E v
 not_11 begin E v = begun_not from_root E

@@ -8,7 +8,7 @@ use Rattle.editor_terms.specs.declared.edit.Edit.TheVariants.{Remove, Upsert}
 use Rattle.editor_terms.specs.declared.edit.RemoveKind.{RemoveKind}
 use Rattle.editor_terms.specs.declared.edit.RemoveKind.TheVariants.{Any, Leaf}
 use Rattle.editor_terms.specs.declared.id.Id.{Id}
-use Rattle.theorems.specs.Public.{Call, set_root, edit, cursor_at_call, begin, begin_at, answer, answer_and_request, fail}
+use Rattle.theorems.specs.Public.{Call, set_root_call, edit, cursor_at_call, begin, begin_at, answer, answer_and_request, fail}
 
 -- the id of twenty bytes 17, and of 19 zeros and a one
 abbrev pub seventeen : Id
@@ -44,7 +44,7 @@ x = 120 ∷ []
 abbrev pub script : List Call
 script =
     put_ab ∷ cut Any [] x ∷ cut Leaf [] x ∷ cursor_at_call no_table d ∷ put d (101 ∷ []) ∷ cut Any d x ∷ cut Leaf d x ∷ begin ∷ answer first ∷ answer first ∷ answer first
-    ∷ begin_at [] ∷ fail ∷ begin ∷ answer_and_request first ∷ set_root [] ∷ []
+    ∷ begin_at [] ∷ fail ∷ begin ∷ answer_and_request first ∷ set_root_call [] ∷ []
 
 -- a table with one byte of an id and no object
 abbrev pub half : Table
@@ -52,4 +52,4 @@ half = record { ids = 0 ∷ []; ends = []; raws = [] }
 
 -- calls that are refused: a root that is no tree, a table that is none, a prefix with no tree, a path with a NUL, no write open; and, once one is, an edit
 abbrev pub refusals : List Call
-refusals = set_root (0 ∷ []) ∷ edit half (Upsert Blob seventeen) false [] a ∷ put x a ∷ put [] (0 ∷ []) ∷ fail ∷ begin ∷ put_a ∷ []
+refusals = set_root_call (0 ∷ []) ∷ edit half (Upsert Blob seventeen) false [] a ∷ put x a ∷ put [] (0 ∷ []) ∷ fail ∷ begin ∷ put_a ∷ []

@@ -22,7 +22,7 @@ use Rattle.editor_write.specs.Requests.{Requests}
 -- `editor`: root::set_root; edit::edit, with the edit, whether it opens a cursor, the prefix and the path; cursor::cursor_at;
 -- `editor_write`: begin::begin, begin::begin_at; answer::answer; next::answer_and_request; fail::fail
 pub data Call : Type 0 where
-  set_root : Bytes → Call
+  set_root_call : Bytes → Call
   edit : Table → Edit → Bool → Bytes → Bytes → Call
   cursor_at_call : Table → Bytes → Call
   begin : Call
@@ -32,7 +32,7 @@ pub data Call : Type 0 where
 
 -- what the contract says that the call does to the editor that is held
 abbrev pub does : Call → Model → model.Answer
-does (set_root raw) = model.set_root sha1 raw
+does (set_root_call raw) = model.set_root sha1 raw
 does (edit T e opening prefix path) = model.edited sha1 T (as_edit e) opening prefix path
 does (cursor_at_call T path) = model.opened sha1 T path
 does begin = write.begun sha1 from_root
