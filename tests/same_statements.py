@@ -16,8 +16,8 @@ TABLE = os.path.join(ROOT, "crates/theorems/specs/Public.antt")
 
 # the clause of each function
 CLAUSES = {
-    "editor/root.rt set_root": "set_root_lem", "editor/edit.rt edit": "edit", "editor/cursor.rt cursor_at": "cursor_at_lem",
-    "editor_write/begin.rt begin": "begin", "editor_write/begin.rt begin_at": "begin_at_lem", "editor_write/answer.rt answer": "answer",
+    "editor/root.rt set_root": "set_root_call", "editor/edit.rt edit": "edit", "editor/cursor.rt cursor_at": "cursor_at_call",
+    "editor_write/begin.rt begin": "begin", "editor_write/begin.rt begin_at": "begin_at", "editor_write/answer.rt answer": "answer",
     "editor_write/next.rt answer_and_request": "answer_and_request", "editor_write/fail.rt fail": "fail",
 }
 
