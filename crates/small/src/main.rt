@@ -5,7 +5,6 @@
 mod answer;
 mod input;
 
-use answer::Ended;
 use std::process::ExitCode;
 
 // Says on standard error what went wrong, as far as that can be written.
@@ -15,9 +14,13 @@ fn failed(rt: &impl Eprint, message: &str) -> ExitCode {
 }
 
 fn main(rt: HostRuntime) -> ExitCode {
-    match answer::answer(&mut rt.stdin(), &mut rt.stdout()) {
-        Ended::Done => ExitCode::SUCCESS,
-        Ended::Unread => failed(&rt, "small: standard input cannot be read"),
-        Ended::Unwritten => failed(&rt, "small: standard output cannot be written"),
+    let mut space = [0u8; 65537];
+    let got = input::read_input(&mut rt.stdin(), &mut space);
+    if got.failed {
+        return failed(&rt, "small: standard input cannot be read");
+    }
+    match answer::answer(&space[..got.len], &mut rt.stdout()) {
+        Ok(()) => ExitCode::SUCCESS,
+        Err(_) => failed(&rt, "small: standard output cannot be written"),
     }
 }
