@@ -42,6 +42,7 @@ module() {
   printf '#!/bin/sh\nfor a in "$@"; do case $a in *.bc) cp "$a" "%s" ;; esac; done\nexec "%s" "$@"\n' "$top/target/$machine/adapter.bc" "$kit/toolchain/bin/clang" > "$wrap/bin/clang"
   chmod +x "$wrap/bin/clang"
   build "$wrap" "target/$machine/libx86.a"
+  rm -rf "$wrap"
   clang=$kit/toolchain/bin/clang ar=$kit/toolchain/bin/llvm-ar
 }
 
