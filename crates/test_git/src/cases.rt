@@ -116,7 +116,7 @@ fn line_case(rt: &impl Print, line: &[u8]) -> io::Result<bool> {
 }
 
 // Replays the whole lines at the front, up to the first that breaks the form, and gives the place
-// after them.
+// after them. An error is that of a print, and leaves the input as it was.
 pub fn replay(rt: &impl Print, input: &[u8]) -> io::Result<usize>
     ensures { IfOk result (λ n. n ≤ length input.now) }
 {

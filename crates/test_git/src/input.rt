@@ -12,7 +12,8 @@ struct Step {
     held: usize,
 }
 
-// Reads on behind the bytes that the buffer holds, and gives how many it holds then.
+// Reads on behind the bytes that the buffer holds, and gives how many it holds then. An error is
+// that of a read: what the buffer holds behind is anything then.
 fn fill<R: Read>(reader: &mut R, buf: &mut [u8], held: usize) -> io::Result<usize>
     requires { held ≤ length buf.old }
     ensures { IfOk result (λ n. IsPrefixLen n buf.new) }
@@ -43,7 +44,8 @@ fn has_line(s: &[u8], from: usize) -> bool {
 }
 
 // Reads on and replays the whole lines. Where the input has ended or a line breaks the form, there
-// is no more to do, and what is left over is a bad line.
+// is no more to do, and what is left over is a bad line. An error is that of the read or of a print,
+// after which the buffer holds anything.
 fn turn<R: Read>(rt: &impl Print, reader: &mut R, buf: &mut [u8], held: usize) -> io::Result<Step>
     requires { held ≤ length buf.old }
     ensures { IfOk result (λ step. step.held ≤ length buf.new) }
