@@ -1,2 +1,4 @@
 pub mod EmptyTree
 pub mod Laws
+pub mod PartLaws
+pub mod StreamLaws

@@ -1,7 +1,9 @@
 // Ids of 32 bytes, by SHA-256.
-ghost use Rattle.std.specs.Prelude.{◌≡◌, ◌+◌, ◌^◌, ◌<◌, length};
+ghost use Rattle.std.specs.Prelude.{◌≡◌, ◌+◌, ◌^◌, ◌≤◌, ◌<◌, length};
 ghost use Rattle.hash.specs.Sha256 as sha;
 ghost use Rattle.hash.specs.Stream.{Holds};
+ghost use Rattle.model.specs.Raw.{raw_tree};
+ghost use Rattle.names_compact.specs.Compact.{Run, unpack};
 ghost use Rattle.tree_id.specs.Ids.{header, object_id, tree_id};
 
 use hash::sha256::State;
@@ -31,4 +33,23 @@ pub fn tree_id(raw: &[u8]) -> [u8; 32]
     ensures { result ≡ tree_id 32 raw.now }
 {
     object_id(b"tree", raw)
+}
+
+// The id of a tree in compact form: its raw form is hashed a part at a time.
+pub fn compact_id(tree: &[u8]) -> [u8; 32]
+    requires { Run 32 tree.now × (length tree.now ≤ 4294967296) }
+    ensures { result ≡ tree_id 32 (raw_tree (unpack 32 tree.now)) }
+{
+    let mut state = begin(b"tree", names_compact::compact::raw_len(tree, 32) as u64);
+    let mut rest = tree;
+    let mut buf = [0u8; 512];
+    while 0 < rest.len() {
+        let k = crate::part::first_part(rest, 32);
+        let n = names_compact::compact::put_tree(&mut buf, names::part::front(rest, k), 32);
+        let longer = state.update(names::part::front(&buf, n));
+        let others = names::part::after(rest, k);
+        state = longer;
+        rest = others;
+    }
+    hash::sha256::bytes(state.finish())
 }

@@ -3,3 +3,4 @@
 
 pub mod id20;
 pub mod id32;
+mod part;

@@ -1,0 +1,11 @@
+use mathlib.Core.Path.{◌≡◌}
+use lib.ListN.{length}
+use Rattle.hash.specs.Sha256.{compress, initial}
+use Rattle.tree_id.proofs.StreamLaws.{Streaming}
+use Rattle.tree_id.proofs.id32.compact_id.Given as goal
+
+abbrev pub invariant-loop-rest : goal.invariant-loop-rest
+invariant-loop-rest l = Streaming compress initial l.state.words l.state.part l.state.length 32 l.tree l.rest × (length l.buf ≡ 512)
+
+abbrev pub decreases-loop-rest : goal.decreases-loop-rest
+decreases-loop-rest l = length l.rest
