@@ -1,7 +1,7 @@
--- `hash::sha1::turn` meets its contract: it is the step of the definition, sum by sum. Assumes nothing.
-use Rattle.hash.specs.Sha1.{step}
+-- `hash::sha1::turn` meets its contract: the words move on by one place. Assumes nothing.
+use Rattle.hash.specs.Sha1 as sha
 use Rattle.hash.proofs.sha1.turn.Goals as goal
 
 pub returns : goal.returns
-unfolding step
+unfolding sha.step
 returns c = cc

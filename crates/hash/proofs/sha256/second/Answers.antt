@@ -1,7 +1,7 @@
--- `hash::sha256::second` meets its contract: the sum of T2. Assumes nothing.
-use Rattle.hash.specs.Sha256.{T2}
+-- `hash::sha256::second` meets its contract: it is the definition's. Assumes nothing.
+use Rattle.hash.specs.Sha256 as sha
 use Rattle.hash.proofs.sha256.second.Goals as goal
 
 pub returns : goal.returns
-unfolding T2
+unfolding sha.T2
 returns c = cc

@@ -1,7 +1,7 @@
--- `hash::sha256::sums` meets its contract: word by word. Assumes nothing.
-use Rattle.hash.specs.Sha256.{sums}
+-- `hash::sha256::sums` meets its contract: each word is a sum. Assumes nothing.
+use Rattle.hash.specs.Sha256 as sha
 use Rattle.hash.proofs.sha256.sums.Goals as goal
 
 pub returns : goal.returns
-unfolding sums
+unfolding sha.sums
 returns c = cc
