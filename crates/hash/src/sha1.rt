@@ -27,6 +27,7 @@ fn schedule(block: &[u8; 64]) -> [u32; 80]
 }
 
 // One turn: x is the function's value, k the constant and w the word.
+#[tactic(auto, unfolding(crate::specs::Sha1::step))]
 fn turn(s: Words, x: u32, k: u32, w: u32) -> Words
     ensures { result ≡ sha.step x k w s }
 {
@@ -45,6 +46,7 @@ fn turn(s: Words, x: u32, k: u32, w: u32) -> Words
 }
 
 // The sums of two hash values, word by word.
+#[tactic(auto, unfolding(crate::specs::Sha1::sums))]
 fn sums(x: Words, y: Words) -> Words
     ensures { result ≡ sha.sums x y }
 {
@@ -64,6 +66,7 @@ impl Hash for Words {
 
     ghost value_of = { sha.sha1 };
 
+    #[tactic(auto, unfolding(crate::specs::Sha1::initial))]
     fn initial() -> Words {
         Words {
             a: 0x67452301,
@@ -98,6 +101,7 @@ impl Hash for Words {
 impl Digest<20> for Words {
     ghost bytes_of = { sha.bytes };
 
+    #[tactic(auto, unfolding(crate::specs::Sha1::bytes, crate::specs::Blocks::in_bytes, crate::specs::Blocks::big_endian))]
     fn bytes(self) -> [u8; 20] {
         let mut out = [0u8; 20];
         put_bytes(&mut out, &[self.a, self.b, self.c, self.d, self.e]);

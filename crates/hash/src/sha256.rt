@@ -67,6 +67,7 @@ fn schedule(block: &[u8; 64]) -> [u32; 64]
     w
 }
 
+#[tactic(auto, unfolding(crate::specs::Sha256::T1))]
 fn first(s: Words, k: u32, w: u32) -> u32
     ensures { result ≡ sha.T1 k w s }
 {
@@ -76,6 +77,7 @@ fn first(s: Words, k: u32, w: u32) -> u32
         .wrapping_add(w)
 }
 
+#[tactic(auto, unfolding(crate::specs::Sha256::T2))]
 fn second(s: Words) -> u32
     ensures { result ≡ sha.T2 s }
 {
@@ -83,6 +85,7 @@ fn second(s: Words) -> u32
 }
 
 // One turn: k is the constant and w the word.
+#[tactic(auto, unfolding(crate::specs::Sha256::step))]
 fn turn(s: Words, k: u32, w: u32) -> Words
     ensures { result ≡ sha.step k w s }
 {
@@ -101,6 +104,7 @@ fn turn(s: Words, k: u32, w: u32) -> Words
 }
 
 // The sums of two hash values, word by word.
+#[tactic(auto, unfolding(crate::specs::Sha256::sums))]
 fn sums(x: Words, y: Words) -> Words
     ensures { result ≡ sha.sums x y }
 {
@@ -123,6 +127,7 @@ impl Hash for Words {
 
     ghost value_of = { sha.sha256 };
 
+    #[tactic(auto, unfolding(crate::specs::Sha256::initial))]
     fn initial() -> Words {
         Words {
             a: 0x6a09e667,
@@ -151,6 +156,7 @@ impl Hash for Words {
 impl Digest<32> for Words {
     ghost bytes_of = { sha.bytes };
 
+    #[tactic(auto, unfolding(crate::specs::Sha256::bytes, crate::specs::Blocks::in_bytes, crate::specs::Blocks::big_endian))]
     fn bytes(self) -> [u8; 32] {
         let mut out = [0u8; 32];
         let words = [

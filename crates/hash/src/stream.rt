@@ -62,6 +62,7 @@ fn blocks<H: Hash>(h: H, s: &[u8]) -> H
 
 impl<H: Hash> State<H> {
     // The empty message.
+    #[tactic(auto, unfolding(crate::specs::Blocks::run))]
     pub fn start() -> Self
         ensures { Holds H.after_block H.start_value result.words result.block result.length [] }
     {

@@ -6,6 +6,7 @@ ghost use Rattle.tree_id.specs.Parts.{Part};
 use names_compact::compact::Tree;
 
 // How many bytes those entries take that come first and whose raw form surely fits 512 bytes: one entry at least.
+// Stays: (c) the bytes and the width, and no Tree: tried, and that a byte of a Tree is below 256 was not to be had in the proof.
 fn first_part(bytes: &[u8], width: usize) -> usize
     requires { Run width bytes.now × (width ≤ 64) × (0 < length bytes.now) }
     ensures { (0 < result) × (result ≤ length bytes.now) × Part width bytes.now (take result bytes.now) (drop result bytes.now) 512 }
