@@ -31,6 +31,11 @@ unfoldable pub big_endian : ℕ → ℕ → List ℕ
 big_endian zero x = []
 big_endian (suc k) x = x / 256 ^ k % 256 ∷ big_endian k x
 
+-- words in bytes, the highest of each word first
+unfoldable pub in_bytes : List ℕ → List ℕ
+in_bytes [] = []
+in_bytes (w ∷ ws) = big_endian 4 w ++ in_bytes ws
+
 -- What is appended to a message of n bytes: the bit 1, zeros, and the length in bits, in 64 bits.
 unfoldable pub padding : ℕ → List ℕ
 padding n = 128 ∷ (replicate (zeros n) 0 ++ big_endian 8 (8 * n))

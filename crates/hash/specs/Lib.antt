@@ -1,5 +1,4 @@
 pub mod Blocks
-pub mod Rows
 pub mod Sha1
 pub mod Sha256
 pub mod Stream

@@ -1,5 +1,5 @@
 -- FIPS 180-4: SHA-1 (sections 4.1.1, 4.2.1, 5.3.1 and 6.1). Assumes nothing.
-use Rattle.std.specs.Prelude.{◌≡◌, ℕ, ◌+◌, ◌-◌, ◌<◌, List, ◌++◌, bit_xor, nat_lt, slice_index}
+use Rattle.std.specs.Prelude.{◌≡◌, ℕ, ◌-◌, List, ◌++◌, bit_xor, nat_lt, slice_index, refl}
 use Rattle.hash.specs.Word.{ROTL, ◌⊞◌, Ch, Parity, Maj}
 use Rattle.hash.specs.Blocks.{pick, words, turns, hashed, big_endian}
 use Rattle.hash.specs.declared.sha1.Words.{Words}
@@ -58,10 +58,11 @@ initial =
 unfoldable pub sha1 : List ℕ → Words
 sha1 m = hashed compress initial m
 
--- v follows the rule of the schedule in its next sixteen words
-abbrev pub Rule : (ℕ → ℕ) → Type 0
-Rule v = (k : ℕ) → k < 16 → v (16 + k) ≡ mix (v (13 + k)) (v (8 + k)) (v (2 + k)) (v k)
-
 -- the bytes of a hash value
 unfoldable pub bytes : Words → List ℕ
 bytes w = big_endian 4 w.a ++ (big_endian 4 w.b ++ (big_endian 4 w.c ++ (big_endian 4 w.d ++ (big_endian 4 w.e))))
+
+-- a message is hashed in its padded form, block by block
+pub by_blocks : (m : List ℕ) → hashed compress initial m ≡ sha1 m
+unfolding sha1
+by_blocks m = refl

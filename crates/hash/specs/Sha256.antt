@@ -1,5 +1,5 @@
 -- FIPS 180-4: SHA-256 (sections 4.1.2, 4.2.2, 5.3.3 and 6.2). Assumes nothing.
-use Rattle.std.specs.Prelude.{◌≡◌, ℕ, ◌+◌, ◌-◌, ◌<◌, List, [], ◌∷◌, ◌++◌, bit_xor, slice_index}
+use Rattle.std.specs.Prelude.{◌≡◌, ℕ, ◌-◌, List, [], ◌∷◌, ◌++◌, bit_xor, slice_index, refl}
 use Rattle.hash.specs.Word.{ROTR, SHR, ◌⊞◌, Ch, Maj}
 use Rattle.hash.specs.Blocks.{words, turns, hashed, big_endian}
 use Rattle.hash.specs.declared.sha256.Words.{Words}
@@ -99,10 +99,11 @@ initial =
 unfoldable pub sha256 : List ℕ → Words
 sha256 m = hashed compress initial m
 
--- v follows the rule of the schedule in its next sixteen words
-abbrev pub Rule : (ℕ → ℕ) → Type 0
-Rule v = (k : ℕ) → k < 16 → v (16 + k) ≡ mix (v (14 + k)) (v (9 + k)) (v (1 + k)) (v k)
-
 -- the bytes of a hash value
 unfoldable pub bytes : Words → List ℕ
 bytes w = big_endian 4 w.a ++ (big_endian 4 w.b ++ (big_endian 4 w.c ++ (big_endian 4 w.d ++ (big_endian 4 w.e ++ (big_endian 4 w.f ++ (big_endian 4 w.g ++ (big_endian 4 w.h)))))))
+
+-- a message is hashed in its padded form, block by block
+pub by_blocks : (m : List ℕ) → hashed compress initial m ≡ sha256 m
+unfolding sha256
+by_blocks m = refl

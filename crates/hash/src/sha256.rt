@@ -1,12 +1,9 @@
 // SHA-256.
-ghost use Rattle.std.specs.Prelude.{◌≡◌, ℕ, ◌+◌, ◌-◌, ◌/◌, ◌^◌, ◌<◌, ◌≤◌, List, [], length, take, drop};
-ghost use Rattle.hash.specs.Blocks.{run};
-ghost use Rattle.hash.specs.Rows.{Row, sixteen};
-ghost use Rattle.hash.specs.Stream.{Holds, Grown};
+ghost use Rattle.std.specs.Prelude.{◌≡◌};
 ghost use Rattle.hash.specs.Sha256 as sha;
 
-use super::buffer::{Buffer, ending, fill};
-use super::word::{Sixteen, byte0, byte1, byte2, byte3, ch, maj, plus, rotr, row_at};
+use super::stream::{Digest, Hash};
+use super::word::{begin, ch, maj, put_bytes};
 
 // A hash value: eight words.
 #[derive(Clone, Copy)]
@@ -21,101 +18,85 @@ pub struct Words {
     pub h: u32,
 }
 
+const TURN: [u32; 64] = [
+    0x428a2f98, 0x71374491, 0xb5c0fbcf, 0xe9b5dba5, 0x3956c25b, 0x59f111f1, 0x923f82a4, 0xab1c5ed5,
+    0xd807aa98, 0x12835b01, 0x243185be, 0x550c7dc3, 0x72be5d74, 0x80deb1fe, 0x9bdc06a7, 0xc19bf174,
+    0xe49b69c1, 0xefbe4786, 0x0fc19dc6, 0x240ca1cc, 0x2de92c6f, 0x4a7484aa, 0x5cb0a9dc, 0x76f988da,
+    0x983e5152, 0xa831c66d, 0xb00327c8, 0xbf597fc7, 0xc6e00bf3, 0xd5a79147, 0x06ca6351, 0x14292967,
+    0x27b70a85, 0x2e1b2138, 0x4d2c6dfc, 0x53380d13, 0x650a7354, 0x766a0abb, 0x81c2c92e, 0x92722c85,
+    0xa2bfe8a1, 0xa81a664b, 0xc24b8b70, 0xc76c51a3, 0xd192e819, 0xd6990624, 0xf40e3585, 0x106aa070,
+    0x19a4c116, 0x1e376c08, 0x2748774c, 0x34b0bcb5, 0x391c0cb3, 0x4ed8aa4a, 0x5b9cca4f, 0x682e6ff3,
+    0x748f82ee, 0x78a5636f, 0x84c87814, 0x8cc70208, 0x90befffa, 0xa4506ceb, 0xbef9a3f7, 0xc67178f2,
+];
+
 fn big0(x: u32) -> u32
     ensures { result ≡ sha.big0 x }
 {
-    rotr(x, 2) ^ rotr(x, 13) ^ rotr(x, 22)
+    x.rotate_right(2) ^ x.rotate_right(13) ^ x.rotate_right(22)
 }
 
 fn big1(x: u32) -> u32
     ensures { result ≡ sha.big1 x }
 {
-    rotr(x, 6) ^ rotr(x, 11) ^ rotr(x, 25)
+    x.rotate_right(6) ^ x.rotate_right(11) ^ x.rotate_right(25)
 }
 
 fn small0(x: u32) -> u32
     ensures { result ≡ sha.small0 x }
 {
-    rotr(x, 7) ^ rotr(x, 18) ^ (x >> 3)
+    x.rotate_right(7) ^ x.rotate_right(18) ^ (x >> 3)
 }
 
 fn small1(x: u32) -> u32
     ensures { result ≡ sha.small1 x }
 {
-    rotr(x, 17) ^ rotr(x, 19) ^ (x >> 10)
+    x.rotate_right(17) ^ x.rotate_right(19) ^ (x >> 10)
 }
 
-// W_t from the words before it.
-fn mix(p: u32, q: u32, r: u32, s: u32) -> u32
-    ensures { result ≡ sha.mix p q r s }
+// The words of a block's turns.
+fn schedule(block: &[u8; 64]) -> [u32; 64]
+    ensures { result ≡ sha.schedule block.now }
 {
-    plus(plus(plus(small1(p), q), small0(r)), s)
-}
-
-// The sixteen words after those of x.
-fn next_row(x: Sixteen) -> Sixteen
-    ensures { (v : ℕ → ℕ) → sha.Rule v → Row v x → Row (λ k. v (16 + k)) result }
-{
-    let r0 = mix(x.w14, x.w9, x.w1, x.w0);
-    let r1 = mix(x.w15, x.w10, x.w2, x.w1);
-    let r2 = mix(r0, x.w11, x.w3, x.w2);
-    let r3 = mix(r1, x.w12, x.w4, x.w3);
-    let r4 = mix(r2, x.w13, x.w5, x.w4);
-    let r5 = mix(r3, x.w14, x.w6, x.w5);
-    let r6 = mix(r4, x.w15, x.w7, x.w6);
-    let r7 = mix(r5, r0, x.w8, x.w7);
-    let r8 = mix(r6, r1, x.w9, x.w8);
-    let r9 = mix(r7, r2, x.w10, x.w9);
-    let r10 = mix(r8, r3, x.w11, x.w10);
-    let r11 = mix(r9, r4, x.w12, x.w11);
-    let r12 = mix(r10, r5, x.w13, x.w12);
-    let r13 = mix(r11, r6, x.w14, x.w13);
-    let r14 = mix(r12, r7, x.w15, x.w14);
-    let r15 = mix(r13, r8, r0, x.w15);
-    Sixteen {
-        w0: r0,
-        w1: r1,
-        w2: r2,
-        w3: r3,
-        w4: r4,
-        w5: r5,
-        w6: r6,
-        w7: r7,
-        w8: r8,
-        w9: r9,
-        w10: r10,
-        w11: r11,
-        w12: r12,
-        w13: r13,
-        w14: r14,
-        w15: r15,
+    let mut w = begin::<64>(block);
+    for t in 16..64 {
+        w[t] = small1(w[t - 2])
+            .wrapping_add(w[t - 7])
+            .wrapping_add(small0(w[t - 15]))
+            .wrapping_add(w[t - 16]);
     }
+    w
 }
 
+#[tactic(auto, unfolding(crate::specs::Sha256::T1))]
 fn first(s: Words, k: u32, w: u32) -> u32
     ensures { result ≡ sha.T1 k w s }
 {
-    plus(plus(plus(plus(s.h, big1(s.e)), ch(s.e, s.f, s.g)), k), w)
+    s.h.wrapping_add(big1(s.e))
+        .wrapping_add(ch(s.e, s.f, s.g))
+        .wrapping_add(k)
+        .wrapping_add(w)
 }
 
+#[tactic(auto, unfolding(crate::specs::Sha256::T2))]
 fn second(s: Words) -> u32
     ensures { result ≡ sha.T2 s }
 {
-    plus(big0(s.a), maj(s.a, s.b, s.c))
+    big0(s.a).wrapping_add(maj(s.a, s.b, s.c))
 }
 
 // One turn: k is the constant and w the word.
+#[tactic(auto, unfolding(crate::specs::Sha256::step))]
 fn turn(s: Words, k: u32, w: u32) -> Words
     ensures { result ≡ sha.step k w s }
 {
     let x = first(s, k, w);
     let y = second(s);
     Words {
-        a: plus(x, y),
+        a: x.wrapping_add(y),
         b: s.a,
         c: s.b,
         d: s.c,
-        e: plus(s.d, x),
+        e: s.d.wrapping_add(x),
         f: s.e,
         g: s.f,
         h: s.g,
@@ -123,255 +104,65 @@ fn turn(s: Words, k: u32, w: u32) -> Words
 }
 
 // The sums of two hash values, word by word.
+#[tactic(auto, unfolding(crate::specs::Sha256::sums))]
 fn sums(x: Words, y: Words) -> Words
     ensures { result ≡ sha.sums x y }
 {
     Words {
-        a: plus(x.a, y.a),
-        b: plus(x.b, y.b),
-        c: plus(x.c, y.c),
-        d: plus(x.d, y.d),
-        e: plus(x.e, y.e),
-        f: plus(x.f, y.f),
-        g: plus(x.g, y.g),
-        h: plus(x.h, y.h),
+        a: x.a.wrapping_add(y.a),
+        b: x.b.wrapping_add(y.b),
+        c: x.c.wrapping_add(y.c),
+        d: x.d.wrapping_add(y.d),
+        e: x.e.wrapping_add(y.e),
+        f: x.f.wrapping_add(y.f),
+        g: x.g.wrapping_add(y.g),
+        h: x.h.wrapping_add(y.h),
     }
 }
 
-// Sixteen turns.
-fn turns0(s: Words, x: Sixteen) -> Words
-    ensures { result ≡ sixteen sha.turn 0 x s }
-{
-    let s0 = turn(s, 0x428a2f98, x.w0);
-    let s1 = turn(s0, 0x71374491, x.w1);
-    let s2 = turn(s1, 0xb5c0fbcf, x.w2);
-    let s3 = turn(s2, 0xe9b5dba5, x.w3);
-    let s4 = turn(s3, 0x3956c25b, x.w4);
-    let s5 = turn(s4, 0x59f111f1, x.w5);
-    let s6 = turn(s5, 0x923f82a4, x.w6);
-    let s7 = turn(s6, 0xab1c5ed5, x.w7);
-    let s8 = turn(s7, 0xd807aa98, x.w8);
-    let s9 = turn(s8, 0x12835b01, x.w9);
-    let s10 = turn(s9, 0x243185be, x.w10);
-    let s11 = turn(s10, 0x550c7dc3, x.w11);
-    let s12 = turn(s11, 0x72be5d74, x.w12);
-    let s13 = turn(s12, 0x80deb1fe, x.w13);
-    let s14 = turn(s13, 0x9bdc06a7, x.w14);
-    turn(s14, 0xc19bf174, x.w15)
-}
+impl Hash for Words {
+    ghost start_value = { sha.initial };
 
-fn turns16(s: Words, x: Sixteen) -> Words
-    ensures { result ≡ sixteen sha.turn 16 x s }
-{
-    let s0 = turn(s, 0xe49b69c1, x.w0);
-    let s1 = turn(s0, 0xefbe4786, x.w1);
-    let s2 = turn(s1, 0x0fc19dc6, x.w2);
-    let s3 = turn(s2, 0x240ca1cc, x.w3);
-    let s4 = turn(s3, 0x2de92c6f, x.w4);
-    let s5 = turn(s4, 0x4a7484aa, x.w5);
-    let s6 = turn(s5, 0x5cb0a9dc, x.w6);
-    let s7 = turn(s6, 0x76f988da, x.w7);
-    let s8 = turn(s7, 0x983e5152, x.w8);
-    let s9 = turn(s8, 0xa831c66d, x.w9);
-    let s10 = turn(s9, 0xb00327c8, x.w10);
-    let s11 = turn(s10, 0xbf597fc7, x.w11);
-    let s12 = turn(s11, 0xc6e00bf3, x.w12);
-    let s13 = turn(s12, 0xd5a79147, x.w13);
-    let s14 = turn(s13, 0x06ca6351, x.w14);
-    turn(s14, 0x14292967, x.w15)
-}
+    ghost after_block = { sha.compress };
 
-fn turns32(s: Words, x: Sixteen) -> Words
-    ensures { result ≡ sixteen sha.turn 32 x s }
-{
-    let s0 = turn(s, 0x27b70a85, x.w0);
-    let s1 = turn(s0, 0x2e1b2138, x.w1);
-    let s2 = turn(s1, 0x4d2c6dfc, x.w2);
-    let s3 = turn(s2, 0x53380d13, x.w3);
-    let s4 = turn(s3, 0x650a7354, x.w4);
-    let s5 = turn(s4, 0x766a0abb, x.w5);
-    let s6 = turn(s5, 0x81c2c92e, x.w6);
-    let s7 = turn(s6, 0x92722c85, x.w7);
-    let s8 = turn(s7, 0xa2bfe8a1, x.w8);
-    let s9 = turn(s8, 0xa81a664b, x.w9);
-    let s10 = turn(s9, 0xc24b8b70, x.w10);
-    let s11 = turn(s10, 0xc76c51a3, x.w11);
-    let s12 = turn(s11, 0xd192e819, x.w12);
-    let s13 = turn(s12, 0xd6990624, x.w13);
-    let s14 = turn(s13, 0xf40e3585, x.w14);
-    turn(s14, 0x106aa070, x.w15)
-}
+    ghost value_of = { sha.sha256 };
 
-fn turns48(s: Words, x: Sixteen) -> Words
-    ensures { result ≡ sixteen sha.turn 48 x s }
-{
-    let s0 = turn(s, 0x19a4c116, x.w0);
-    let s1 = turn(s0, 0x1e376c08, x.w1);
-    let s2 = turn(s1, 0x2748774c, x.w2);
-    let s3 = turn(s2, 0x34b0bcb5, x.w3);
-    let s4 = turn(s3, 0x391c0cb3, x.w4);
-    let s5 = turn(s4, 0x4ed8aa4a, x.w5);
-    let s6 = turn(s5, 0x5b9cca4f, x.w6);
-    let s7 = turn(s6, 0x682e6ff3, x.w7);
-    let s8 = turn(s7, 0x748f82ee, x.w8);
-    let s9 = turn(s8, 0x78a5636f, x.w9);
-    let s10 = turn(s9, 0x84c87814, x.w10);
-    let s11 = turn(s10, 0x8cc70208, x.w11);
-    let s12 = turn(s11, 0x90befffa, x.w12);
-    let s13 = turn(s12, 0xa4506ceb, x.w13);
-    let s14 = turn(s13, 0xbef9a3f7, x.w14);
-    turn(s14, 0xc67178f2, x.w15)
-}
-
-// The hash value after the block of 64 bytes at `at`.
-fn compress(h: Words, s: &[u8], at: usize) -> Words
-    requires { at + 64 ≤ length s.now }
-    ensures { result ≡ sha.compress h (take 64 (drop at s.now)) }
-{
-    let x0 = row_at(s, at);
-    let s0 = turns0(h, x0);
-    let x1 = next_row(x0);
-    let s1 = turns16(s0, x1);
-    let x2 = next_row(x1);
-    let s2 = turns32(s1, x2);
-    let x3 = next_row(x2);
-    let s3 = turns48(s2, x3);
-    sums(s3, h)
-}
-
-// The hash value after the whole blocks of s from `at` on.
-fn blocks(h: Words, s: &[u8], at: usize) -> Words
-    requires { at ≤ length s.now }
-    ensures { result ≡ run sha.compress h ((length s.now - at) / 64) (drop at s.now) }
-{
-    let mut r = h;
-    let mut i = at;
-    let n = s.len();
-    while 64 <= n - i {
-        r = compress(r, s, i);
-        i += 64;
-    }
-    r
-}
-
-// A message that has been taken in: the hash value of its whole blocks, the bytes behind them, and its length in bytes.
-#[derive(Drop)]
-pub struct State {
-    pub words: Words,
-    pub part: Buffer,
-    pub length: u64,
-}
-
-impl State {
-    // The empty message.
-    pub fn start() -> Self
-        ensures { Holds sha.compress sha.initial result.words result.part result.length [] }
-    {
-        State {
-            words: Words {
-                a: 0x6a09e667,
-                b: 0xbb67ae85,
-                c: 0x3c6ef372,
-                d: 0xa54ff53a,
-                e: 0x510e527f,
-                f: 0x9b05688c,
-                g: 0x1f83d9ab,
-                h: 0x5be0cd19,
-            },
-            part: Buffer {
-                block: [0u8; 64],
-                filled: 0,
-            },
-            length: 0,
+    #[tactic(auto, unfolding(crate::specs::Sha256::initial))]
+    fn initial() -> Words {
+        Words {
+            a: 0x6a09e667,
+            b: 0xbb67ae85,
+            c: 0x3c6ef372,
+            d: 0xa54ff53a,
+            e: 0x510e527f,
+            f: 0x9b05688c,
+            g: 0x1f83d9ab,
+            h: 0x5be0cd19,
         }
     }
 
-    // The message with s behind it.
-    pub fn update(self, s: &[u8]) -> Self
-        requires { (self.part.filled < 64) × (self.length + length s.now < 2 ^ 61) }
-        ensures { Grown sha.compress sha.initial self.words self.part self.length s.now result.words result.part result.length }
-    {
-        let words = self.words;
-        let part = self.part;
-        let filled = part.filled;
-        let n = s.len();
-        let length = self.length + n as u64;
-        let first = fill(part, s, 0);
-        let held = first.filled;
-        if held < 64 {
-            return State {
-                words,
-                part: first,
-                length,
-            };
+    fn compress(self, block: &[u8; 64]) -> Words {
+        let w = schedule(block);
+        let mut s = self;
+        for t in 0..64 {
+            s = turn(s, TURN[t], w[t]);
         }
-        let block = first.block;
-        let at = 64 - filled;
-        let whole = compress(words, &block, 0);
-        let rest = n - (n - at) % 64;
-        State {
-            words: blocks(whole, s, at),
-            part: fill(Buffer { block, filled: 0 }, s, rest),
-            length,
-        }
+        sums(s, self)
     }
 
-    // The hash value of the message.
-    pub fn finish(self) -> Words
-        requires { (m : List ℕ) × Holds sha.compress sha.initial self.words self.part self.length m × (length m < 2 ^ 61) }
-        ensures { (m : List ℕ) → Holds sha.compress sha.initial self.words self.part self.length m → result ≡ sha.sha256 m }
-    {
-        let tail = ending(self.part, self.length);
-        let bytes = tail.bytes;
-        let size = tail.size;
-        blocks(self.words, &bytes[..size], 0)
+    ghost by_blocks = { sha.by_blocks };
+}
+
+impl Digest<32> for Words {
+    ghost bytes_of = { sha.bytes };
+
+    #[tactic(auto, unfolding(crate::specs::Sha256::bytes, crate::specs::Blocks::in_bytes, crate::specs::Blocks::big_endian))]
+    fn bytes(self) -> [u8; 32] {
+        let mut out = [0u8; 32];
+        let words = [
+            self.a, self.b, self.c, self.d, self.e, self.f, self.g, self.h,
+        ];
+        put_bytes(&mut out, &words);
+        out
     }
-}
-
-// The SHA-256 of s.
-pub fn of(s: &[u8]) -> Words
-    requires { length s.now < 2 ^ 61 }
-    ensures { result ≡ sha.sha256 s.now }
-{
-    State::start().update(s).finish()
-}
-
-// The bytes of a hash value, the highest of each word first.
-pub fn bytes(w: Words) -> [u8; 32]
-    ensures { result ≡ sha.bytes w }
-{
-    [
-        byte3(w.a),
-        byte2(w.a),
-        byte1(w.a),
-        byte0(w.a),
-        byte3(w.b),
-        byte2(w.b),
-        byte1(w.b),
-        byte0(w.b),
-        byte3(w.c),
-        byte2(w.c),
-        byte1(w.c),
-        byte0(w.c),
-        byte3(w.d),
-        byte2(w.d),
-        byte1(w.d),
-        byte0(w.d),
-        byte3(w.e),
-        byte2(w.e),
-        byte1(w.e),
-        byte0(w.e),
-        byte3(w.f),
-        byte2(w.f),
-        byte1(w.f),
-        byte0(w.f),
-        byte3(w.g),
-        byte2(w.g),
-        byte1(w.g),
-        byte0(w.g),
-        byte3(w.h),
-        byte2(w.h),
-        byte1(w.h),
-        byte0(w.h),
-    ]
 }

@@ -1,22 +1,22 @@
 // The cases: a letter, a message in hex, a space, and the value expected in hex. Where a line cannot be written, the error goes to the caller.
 ghost use Rattle.std.specs.Prelude.{◌≤◌, IfOk, length};
 
-use lines::text::Put;
+use crate::often::often;
+use hash::{Digest, sha1, sha256};
+use lines::hex::decode;
+use names::part::front;
+use names::path::{position, tail};
 use std::io;
-
-pub fn print(rt: &impl Print, text: &[u8]) -> io::Result<()> {
-    rt.write_all(text)
-}
+use tree_id::{object_id, tree_id};
 
 // Prints a value, and a word more where another was expected.
 fn print_value(rt: &impl Print, value: &[u8], expected: &[u8]) -> io::Result<()> {
     let mut text = [0u8; 128];
-    match lines::text::put_hex_line(&mut text, 0, b"id", value) {
-        Put::At(n) => print(rt, names::part::front(&text, n))?,
-        Put::Refused => {}
+    if let Some(n) = lines::text::put_hex_line(&mut text, 0, b"id", value) {
+        rt.write_all(front(&text, n))?;
     }
-    if !names::order::same_bytes(value, expected) {
-        print(rt, b"other\n")?;
+    if value != expected {
+        rt.write_all(b"other\n")?;
     }
     Ok(())
 }
@@ -27,18 +27,22 @@ fn value_case(rt: &impl Print, letter: u8, message: &[u8], expected: &[u8]) -> i
         return Ok(false);
     }
     match letter {
-        b'1' => print_value(rt, &hash::sha1::bytes(hash::sha1::of(message)), expected)?,
-        b'2' => print_value(
+        b'1' => print_value(rt, &hash::of::<sha1::Words>(message).bytes(), expected)?,
+        b'2' => print_value(rt, &hash::of::<sha256::Words>(message).bytes(), expected)?,
+        b'm' => print_value(rt, &often::<sha1::Words>(message).bytes(), expected)?,
+        b'n' => print_value(rt, &often::<sha256::Words>(message).bytes(), expected)?,
+        b't' => print_value(rt, &tree_id::<sha1::Words, 20>(message), expected)?,
+        b'u' => print_value(rt, &tree_id::<sha256::Words, 32>(message), expected)?,
+        b'b' => print_value(
             rt,
-            &hash::sha256::bytes(hash::sha256::of(message)),
+            &object_id::<sha1::Words, 20>(b"blob", message),
             expected,
         )?,
-        b'm' => print_value(rt, &crate::often::sha1(message), expected)?,
-        b'n' => print_value(rt, &crate::often::sha256(message), expected)?,
-        b't' => print_value(rt, &tree_id::id20::tree_id(message), expected)?,
-        b'u' => print_value(rt, &tree_id::id32::tree_id(message), expected)?,
-        b'b' => print_value(rt, &tree_id::id20::object_id(b"blob", message), expected)?,
-        b'c' => print_value(rt, &tree_id::id32::object_id(b"blob", message), expected)?,
+        b'c' => print_value(
+            rt,
+            &object_id::<sha256::Words, 32>(b"blob", message),
+            expected,
+        )?,
         _ => {
             return Ok(false);
         }
@@ -50,33 +54,22 @@ fn value_case(rt: &impl Print, letter: u8, message: &[u8], expected: &[u8]) -> i
 fn hex_case(rt: &impl Print, letter: u8, message: &[u8], value: &[u8]) -> io::Result<bool> {
     let mut bytes = [0u8; 8192];
     let mut expected = [0u8; 32];
-    match lines::hex::decode(&mut bytes, 0, message) {
-        Put::At(n) => match lines::hex::decode(&mut expected, 0, value) {
-            Put::At(k) => value_case(
-                rt,
-                letter,
-                names::part::front(&bytes, n),
-                names::part::front(&expected, k),
-            ),
-            Put::Refused => Ok(false),
-        },
-        Put::Refused => Ok(false),
-    }
+    let Some(n) = decode(&mut bytes, 0, message) else {
+        return Ok(false);
+    };
+    let Some(k) = decode(&mut expected, 0, value) else {
+        return Ok(false);
+    };
+    value_case(rt, letter, front(&bytes, n), front(&expected, k))
 }
 
 // The case on a line; false, with nothing printed, where the line breaks the form.
 fn line_case(rt: &impl Print, line: &[u8]) -> io::Result<bool> {
-    if line.len() == 0 {
+    let Some((letter, rest)) = line.split_first() else {
         return Ok(false);
-    }
-    let rest = names::part::after(line, 1);
-    let k = names::path::index_of(rest, 32);
-    hex_case(
-        rt,
-        line[0],
-        names::part::front(rest, k),
-        names::path::tail(rest, k),
-    )
+    };
+    let k = position(rest, b' ').unwrap_or(rest.len());
+    hex_case(rt, *letter, front(rest, k), tail(rest, k))
 }
 
 // Replays the whole lines at the front, up to the first that breaks the form, and gives the place after them. An error is that
@@ -84,18 +77,12 @@ fn line_case(rt: &impl Print, line: &[u8]) -> io::Result<bool> {
 pub fn replay(rt: &impl Print, input: &[u8]) -> io::Result<usize>
     ensures { IfOk result (λ n. n ≤ length input.now) }
 {
-    let mut at = 0;
-    while at < input.len() {
-        let rest = names::part::after(input, at);
-        let k = names::path::index_of(rest, 10);
-        if rest.len() <= k {
-            return Ok(at);
+    let mut rest = input;
+    while let Some(k) = position(rest, b'\n') {
+        if !line_case(rt, &rest[..k])? {
+            break;
         }
-        if line_case(rt, names::part::front(rest, k))? {
-            at = at + k + 1;
-        } else {
-            return Ok(at);
-        }
+        rest = &rest[k + 1..];
     }
-    Ok(at)
+    Ok(input.len() - rest.len())
 }

@@ -4,12 +4,9 @@ use mathlib.Core.Path.{◌≡◌, refl, subst}
 use mathlib.Core.Bool.{Bool, true, false, cond}
 use mathlib.Core.List.{List, [], ◌∷◌, ◌++◌}
 use native.Mathlib.Omega.{arith}
-use lib.Dec.{ltb}
+use lib.Dec.{eqb, ltb}
 use lib.ListN.{length, length-append}
-use Rattle.hash.specs.Sha1 as one
-use Rattle.hash.specs.Sha256 as two
 use Rattle.hash.specs.Stream.{Holds}
-use Rattle.hash.specs.declared.buffer.Buffer.{Buffer}
 use Rattle.lines.specs.Texts.{decimal_from, decimal}
 use Rattle.model.specs.Bytes.{Bytes}
 use Rattle.tree_id.specs.Ids.{header, hashed_by, object_id}
@@ -29,15 +26,12 @@ header_short kind n =
     omega (arith, length-append ((kind ++ (32 ∷ [])) ++ decimal_from 20 n []) (0 ∷ []), length-append (kind ++ (32 ∷ [])) (decimal_from 20 n []), length-append kind (32 ∷ []), digits_few 20 n [])
 
 -- the kind, a space, the digits and a NUL are the header
-pub header_held : {H : Type 0} {f : H → List ℕ → H} {h words : H} {part : Buffer} {k : ℕ} (kind : Bytes) (n : ℕ) (digits : Bytes) → digits ≡ decimal n →
-    Holds f h words part k (((kind ++ (32 ∷ [])) ++ digits) ++ (0 ∷ [])) → Holds f h words part k (header kind n)
+pub header_held : {H : Type 0} {f : H → List ℕ → H} {h words : H} {block : List ℕ} {k : ℕ} (kind : Bytes) (n : ℕ) (digits : Bytes) → digits ≡ decimal n →
+    Holds f h words block k (((kind ++ (32 ∷ [])) ++ digits) ++ (0 ∷ [])) → Holds f h words block k (header kind n)
 unfolding header
-header_held {H} {f} {h} {words} {part} {k} kind n digits e p = subst (λ (l : Bytes). Holds f h words part k (((kind ++ (32 ∷ [])) ++ l) ++ (0 ∷ []))) e p
+header_held {H} {f} {h} {words} {block} {k} kind n digits e p = subst (λ (l : Bytes). Holds f h words block k (((kind ++ (32 ∷ [])) ++ l) ++ (0 ∷ []))) e p
 
-pub id20 : (kind body : Bytes) → one.bytes (one.sha1 (header kind (length body) ++ body)) ≡ object_id 20 kind body
-unfolding object_id hashed_by
-id20 kind body = refl
-
-pub id32 : (kind body : Bytes) → two.bytes (two.sha256 (header kind (length body) ++ body)) ≡ object_id 32 kind body
-unfolding object_id hashed_by
-id32 kind body = refl
+-- an id is the hash of the header and the body, in the format of its width
+pub id_of : (w : ℕ) (kind body : Bytes) → hashed_by (eqb w 32) (header kind (length body) ++ body) ≡ object_id w kind body
+unfolding object_id
+id_of w kind body = refl

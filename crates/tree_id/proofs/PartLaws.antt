@@ -69,7 +69,7 @@ module _ {w : ℕ} {b : Bytes} {k n : ℕ} (c : Cut w b k n) (r : Run w b) where
         long = omega (arith, ap length next, length-append (raw_tree (take c.i t)) (raw_entry e), entry_long e, (here w b c.i r u).wide, octal_length e.mode, m.word, c.long);
       }
 
-  pub cut_part : k ≤ length b → Part w b k n
+  pub cut_part : k ≤ length b → Part w b (take k b) (drop k b) n
   cut_part h =
       let t = unpack w b in
       let xs = take c.i t in
@@ -79,7 +79,7 @@ module _ {w : ℕ} {b : Bytes} {k n : ℕ} (c : Cut w b k n) (r : Run w b) where
       let f = packs w xs (take k b) (ap (take k) whole ∙ take_at (packed_all xs) (packed_all ys) k (sym c.walked.is)) (good_take w t c.i r.good) in
       let o = packs w ys (drop k b) (ap (drop k) whole ∙ drop_at (packed_all xs) (packed_all ys) k (sym c.walked.is)) (good_drop w t c.i r.good) in
       record {
-        within = h;
+        whole = sym (take-append-drop k b);
         first = f.1;
         others = o.1;
         raw = ap raw_tree s ∙ raw_append xs ys ∙ ap₂ (λ (x y : Bytes). x ++ y) (ap raw_tree (sym f.0)) (ap raw_tree (sym o.0));
@@ -107,10 +107,10 @@ module _ {w : ℕ} {b : Bytes} {k n : ℕ} (p : Parting w b k n) (r : Run w b) w
         first = λ z. absurd (omega (arith, z));
       }
 
-  pub part_end : 0 < k → (0 < k) × Part w b k 512
+  pub part_end : 0 < k → (0 < k) × (k ≤ length b) × Part w b (take k b) (drop k b) 512
   part_end h =
       let q = cut_part p.cut r p.within in
-      (h, record { within = q.within; first = q.first; others = q.others; raw = q.raw; long = omega (arith, q.long, p.few) })
+      (h, p.within, record { whole = q.whole; first = q.first; others = q.others; raw = q.raw; long = omega (arith, q.long, p.few) })
 
 -- where the next entry does not fit, it is not the first
 pub some_taken : {w : ℕ} {b : Bytes} {k n m : ℕ} → Parting w b k n → w ≤ 64 → m < 256 → 512 < n + 8 + m + w → 0 < k

@@ -3,15 +3,14 @@ use Prim.Native.Nat.{ℕ, ◌+◌, ◌*◌, ◌≤◌}
 use mathlib.Core.Path.{◌≡◌, refl, sym, ap, ◌∙◌, subst}
 use mathlib.Core.List.{List, [], ◌∷◌, ◌++◌, append_assoc, append-nil}
 use native.Mathlib.Omega.{arith}
-use lib.ListN.{length, take, drop, length-append}
+use lib.ListN.{length, take, length-append}
 use Rattle.hash.specs.Stream.{Holds, Grown}
-use Rattle.hash.specs.declared.buffer.Buffer.{Buffer}
 use Rattle.model.specs.Bytes.{Bytes}
 use Rattle.model.specs.Raw.{raw_entry, raw_tree}
 use Rattle.model.specs.Tree.{Tree}
 use Rattle.model.proofs.ValidLaws.{octal_length}
 use Rattle.names.specs.Check.{Wide}
-use Rattle.names.proofs.WriteLaws.{entry_long, splice_front}
+use Rattle.names.proofs.WriteLaws.{entry_long, splice_front, length_splice}
 use Rattle.names.specs.Splice.{splice}
 use Rattle.names_compact.specs.Compact.{packed, packed_all, unpack_in, unpack, Run}
 use Rattle.names_compact.proofs.CompactLaws.{wide_good, packed_length}
@@ -33,29 +32,32 @@ empty_run : (w : ℕ) → raw_tree (unpack w []) ≡ []
 unfolding unpack unpack_in
 empty_run w = refl
 
--- the first k bytes of a run, `one`: their raw form is short, and once it is written to the front of a buffer it is what the front holds
-pub piece_short : {w k n : ℕ} {rest one : Bytes} → Part w rest k n → one ≡ take k rest → length (raw_tree (unpack w one)) ≤ n
-piece_short {w} p e = omega (arith, ap (λ (l : Bytes). length (raw_tree (unpack w l))) e, p.long)
+-- once the raw form of a part is written to the front of a buffer, it is what the front holds
+pub piece_held : {v w : ℕ} → v ≡ w → (one old : Bytes) {n : ℕ} {new l : Bytes} → n ≡ length (raw_tree (unpack v one)) → new ≡ splice old 0 (raw_tree (unpack v one)) → l ≡ take n new → l ≡ raw_tree (unpack w one)
+piece_held {v} e one old {n} {new} {l} r s f = f ∙ ap (take n) s ∙ splice_front old (raw_tree (unpack v one)) n r ∙ ap (λ (u : ℕ). raw_tree (unpack u one)) e
 
-pub piece_held : (w k : ℕ) (rest old : Bytes) {n : ℕ} {one new l : Bytes} → one ≡ take k rest → n ≡ length (raw_tree (unpack w one)) → new ≡ splice old 0 (raw_tree (unpack w one)) → l ≡ take n new → l ≡ raw_tree (unpack w (take k rest))
-piece_held w k rest old {n} {one} {new} {l} e r s f = f ∙ ap (take n) s ∙ splice_front old (raw_tree (unpack w one)) n r ∙ ap (λ (x : Bytes). raw_tree (unpack w x)) e
+pub piece_short : {v w n : ℕ} → v ≡ w → (one : Bytes) → length (raw_tree (unpack w one)) ≤ n → length (raw_tree (unpack v one)) ≤ n
+piece_short e one h = rw e h
+
+pub buffer_kept : (old one : Bytes) {new : Bytes} → new ≡ splice old 0 one → length one ≤ length old → length new ≡ length old
+buffer_kept old one e h = ap length e ∙ length_splice old 0 one (omega (arith, h))
 
 -- of the tree in the run b, `rest` is left: the hash of blocks f from h has taken in the header and the raw form of what came before
-pub record Streaming {H : Type 0} (f : H → List ℕ → H) (h words : H) (part : Buffer) (n w : ℕ) (b rest : Bytes) : Type 0 where
+pub record Streaming {H : Type 0} (f : H → List ℕ → H) (h words : H) (block : List ℕ) (n w : ℕ) (b rest : Bytes) : Type 0 where
   pub done : Bytes
-  pub holds : Holds f h words part n (header tree (length (raw_tree (unpack w b))) ++ done)
+  pub holds : Holds f h words block n (header tree (length (raw_tree (unpack w b))) ++ done)
   pub raw : raw_tree (unpack w b) ≡ done ++ raw_tree (unpack w rest)
   pub run : Run w rest
 
-pub stream_begin : {H : Type 0} {f : H → List ℕ → H} {h words : H} {part : Buffer} {n w : ℕ} {b : Bytes} (k : ℕ) → Run w b → k ≡ length (raw_tree (unpack w b)) → Holds f h words part n (header tree k) → Streaming f h words part n w b b
-stream_begin {H} {f} {h} {words} {part} {n} {w} {b} k r e a = record {
+pub stream_begin : {H : Type 0} {f : H → List ℕ → H} {h words : H} {block : List ℕ} {n w : ℕ} {b : Bytes} (k : ℕ) → Run w b → k ≡ length (raw_tree (unpack w b)) → Holds f h words block n (header tree k) → Streaming f h words block n w b b
+stream_begin {H} {f} {h} {words} {block} {n} {w} {b} k r e a = record {
   done = [];
-  holds = subst (λ (l : Bytes). Holds f h words part n l) (ap (header tree) e ∙ sym (append-nil (header tree (length (raw_tree (unpack w b)))))) a;
+  holds = subst (λ (l : Bytes). Holds f h words block n l) (ap (header tree) e ∙ sym (append-nil (header tree (length (raw_tree (unpack w b)))))) a;
   raw = refl;
   run = r;
 }
 
-module _ {H : Type 0} {f : H → List ℕ → H} {h words : H} {part : Buffer} {n w : ℕ} {b rest : Bytes} (s : Streaming f h words part n w b rest) where
+module _ {H : Type 0} {f : H → List ℕ → H} {h words : H} {block : List ℕ} {n w : ℕ} {b rest : Bytes} (s : Streaming f h words block n w b rest) where
   -- few bytes have been taken in
   pub stream_few : Run w b → n ≤ 26 + 4 * length b
   stream_few r =
@@ -63,24 +65,23 @@ module _ {H : Type 0} {f : H → List ℕ → H} {h words : H} {part : Buffer} {
       let d = header tree (length all) in
       omega (arith, s.holds.count, length-append d s.done, header_short tree (length all), ap length s.raw, length-append s.done (raw_tree (unpack w rest)), raw_few w b r)
 
-  pub stream_more : {k m : ℕ} {words' : H} {part' : Buffer} {n' : ℕ} {l : Bytes} → Part w rest k m → l ≡ raw_tree (unpack w (take k rest)) → Grown f h words part n l words' part' n' → Streaming f h words' part' n' w b (drop k rest)
-  stream_more {k} {m} {words'} {part'} {n'} {l} p e g =
-      let one = raw_tree (unpack w (take k rest)) in
-      let two = raw_tree (unpack w (drop k rest)) in
+  pub stream_more : {x y : Bytes} {m : ℕ} {words' : H} {block' : List ℕ} {n' : ℕ} {l : Bytes} → Part w rest x y m → l ≡ raw_tree (unpack w x) → Grown f h words block n l words' block' n' → Streaming f h words' block' n' w b y
+  stream_more {x} {y} {m} {words'} {block'} {n'} {l} p e g =
+      let two = raw_tree (unpack w y) in
       let d = header tree (length (raw_tree (unpack w b))) in
       record {
         done = s.done ++ l;
-        holds = subst (λ (x : Bytes). Holds f h words' part' n' x) (append_assoc d s.done l) (g.holds (d ++ s.done) s.holds);
-        raw = s.raw ∙ ap (λ (x : Bytes). s.done ++ x) (p.raw ∙ ap (λ (x : Bytes). x ++ two) (sym e)) ∙ sym (append_assoc s.done l two);
+        holds = subst (λ (z : Bytes). Holds f h words' block' n' z) (append_assoc d s.done l) (g.holds (d ++ s.done) s.holds);
+        raw = s.raw ∙ ap (λ (z : Bytes). s.done ++ z) (p.raw ∙ ap (λ (z : Bytes). z ++ two) (sym e)) ∙ sym (append_assoc s.done l two);
         run = p.others;
       }
 
   -- nothing is left
-  pub stream_end : length rest ≤ 0 → Holds f h words part n (header tree (length (raw_tree (unpack w b))) ++ raw_tree (unpack w b))
+  pub stream_end : length rest ≤ 0 → Holds f h words block n (header tree (length (raw_tree (unpack w b))) ++ raw_tree (unpack w b))
   stream_end z =
       let all = raw_tree (unpack w b) in
       let nothing : raw_tree (unpack w rest) ≡ [] = empty_raw rest z in
-      subst (λ (x : Bytes). Holds f h words part n (header tree (length all) ++ x)) (sym (s.raw ∙ ap (λ (x : Bytes). s.done ++ x) nothing ∙ append-nil s.done)) s.holds
+      subst (λ (x : Bytes). Holds f h words block n (header tree (length all) ++ x)) (sym (s.raw ∙ ap (λ (x : Bytes). s.done ++ x) nothing ∙ append-nil s.done)) s.holds
     where
       empty_raw : (r : Bytes) → length r ≤ 0 → raw_tree (unpack w r) ≡ []
       empty_raw [] z = empty_run w

@@ -1,5 +1,5 @@
 -- The id that Git gives an object: the hash of its kind, a space (32), its length in decimal, a NUL and its bytes. Assumes nothing.
-use Rattle.std.specs.Prelude.{ℕ, [], ◌∷◌, ◌++◌, Bool, true, false, eqb, length}
+use Rattle.std.specs.Prelude.{◌≡◌, refl, ℕ, [], ◌∷◌, ◌++◌, Bool, true, false, eqb, length}
 use Rattle.hash.specs.Sha1 as one
 use Rattle.hash.specs.Sha256 as two
 use Rattle.lines.specs.Texts.{decimal}
@@ -12,6 +12,14 @@ header kind n = ((kind ++ (32 ∷ [])) ++ decimal n) ++ (0 ∷ [])
 unfoldable pub hashed_by : Bool → Bytes → Bytes
 hashed_by true m = two.bytes (two.sha256 m)
 hashed_by false m = one.bytes (one.sha1 m)
+
+pub by_sha1 : (m : Bytes) → one.bytes (one.sha1 m) ≡ hashed_by (eqb 20 32) m
+unfolding hashed_by
+by_sha1 m = refl
+
+pub by_sha256 : (m : Bytes) → two.bytes (two.sha256 m) ≡ hashed_by (eqb 32 32) m
+unfolding hashed_by
+by_sha256 m = refl
 
 -- by the width of ids: SHA-256 for 32 bytes, else SHA-1
 unfoldable pub object_id : ℕ → Bytes → Bytes → Bytes

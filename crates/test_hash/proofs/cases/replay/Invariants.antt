@@ -1,9 +1,9 @@
--- A line that ends is part of what is left of the input.
-use Rattle.std.proofs.Common.{◌≤◌, ◌-◌, length}
+-- What is left of the input is no longer than it.
+use Rattle.std.proofs.Common.{◌≤◌, length}
 use Rattle.test_hash.proofs.cases.replay.Given as goal
 
-abbrev pub invariant-loop-at : goal.invariant-loop-at
-invariant-loop-at g l = l.at ≤ length l.input
+abbrev pub invariant-loop-k : goal.invariant-loop-k
+invariant-loop-k g l = length l.rest ≤ length l.input
 
-abbrev pub decreases-loop-at : goal.decreases-loop-at
-decreases-loop-at g l = length l.input - l.at
+abbrev pub decreases-loop-k : goal.decreases-loop-k
+decreases-loop-k g l = length l.rest

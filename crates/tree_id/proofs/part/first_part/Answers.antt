@@ -8,8 +8,8 @@ pub loop-at-init : goal.loop-at-init
 loop-at-init c = part_begin _ _
 
 -- the entry at hand is there
-pub bounds-tree-at : goal.bounds-tree-at
-bounds-tree-at c = omega (arith, cut_room c.loop-at.invariant.cut c.requires.0 c.loop-at-test.true)
+pub bounds-bytes-at : goal.bounds-bytes-at
+bounds-bytes-at c = omega (arith, cut_room c.loop-at.invariant.cut c.requires.0 c.loop-at-test.true)
 
 pub loop-at-preserved : goal.loop-at-preserved
 loop-at-preserved c = part_more c.loop-at.invariant c.requires.0 c.loop-at-test.true c.if-more-gt512.false
@@ -19,4 +19,4 @@ returns-after-loop-at c = part_end c.loop-at.invariant c.requires.0 (omega (arit
 
 -- nothing was left out: the first entry fits
 pub returns-then-more-gt512 : goal.returns-then-more-gt512
-returns-then-more-gt512 c = part_end c.loop-at.invariant c.requires.0 (some_taken c.loop-at.invariant c.requires.1 (omega (arith, c.type_inv.tree (c.loop-at.at + 1))) c.if-more-gt512.true)
+returns-then-more-gt512 c = part_end c.loop-at.invariant c.requires.0 (some_taken c.loop-at.invariant c.requires.1 (omega (arith, c.type_inv.bytes (c.loop-at.at + 1))) c.if-more-gt512.true)

@@ -1,0 +1,7 @@
+use Rattle.std.proofs.Common.{◌≡◌, length, take}
+use Rattle.hash.specs.Blocks.{words}
+use Rattle.hash.specs.Sha1.{next}
+use Rattle.hash.proofs.sha1.schedule.Given as goal
+
+abbrev pub invariant-loop-t : goal.invariant-loop-t
+invariant-loop-t l = (length l.w ≡ 80) × (take l.t l.w ≡ words next l.block l.t)

@@ -1,7 +1,0 @@
--- `hash::sha256::turn` meets its contract: it is the step of the definition, sum by sum. Assumes nothing.
-use Rattle.hash.specs.Sha256.{step}
-use Rattle.hash.proofs.sha256.turn.Goals as goal
-
-pub returns : goal.returns
-unfolding step
-returns c = cc
