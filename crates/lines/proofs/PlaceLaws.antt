@@ -7,6 +7,7 @@ use native.Mathlib.Omega.{arith}
 use lib.Dec.{ltb}
 use lib.ListN.{length, take, drop, length-take, length-drop}
 use borrow.Author.Tests.{lt-ltb, le-ltb, ltb-true}
+use Rattle.std.specs.Prelude as code
 use Rattle.model.specs.Bytes.{Bytes, same}
 use Rattle.model.proofs.Basics.{none_some, some_none, some_inj}
 use Rattle.model.proofs.ByteLaws.{same_eq}
@@ -14,8 +15,7 @@ use Rattle.names.specs.Places.{index_of}
 use Rattle.lines.specs.Lines.{starts}
 use Rattle.lines.specs.Places.{Part, line_len, value_at, Told, told, bind}
 use Rattle.lines.specs.Answers.{value_read}
-use Rattle.lines.specs.declared.line.Value.{Value}
-use Rattle.lines.specs.declared.line.Value.TheVariants.{At}
+use Rattle.lines.specs.declared.line.Span.{Span}
 
 -- a text begins with a key only if it is as long
 pub starts_long : (key l : Bytes) → starts key l ≡ true → length key ≤ length l
@@ -74,7 +74,7 @@ value_inside key s at {p} e = go (ltb (line_len s at) (length (drop at s))) refl
 pub from : {A B : Type 0} (f : A → B) {x y : A} {z : B} → f x ≡ z → x ≡ y → z ≡ f y
 from f e q = sym e ∙ ap f q
 
-pub inside : (key s : Bytes) (at : ℕ) {r : Value} {x n : ℕ} → value_read r ≡ value_at key s at → r ≡ At x n → x + n < length s
+pub inside : (key s : Bytes) (at : ℕ) {r : code.Option Span} {p : Span} → value_read r ≡ value_at key s at → r ≡ code.Some p → p.at + p.len < length s
 inside key s at e q = (value_inside key s at (from value_read e q)).1
 
 -- What a line told comes from, and where nothing is told
