@@ -9,11 +9,11 @@ use Rattle.lines.specs.Places.{Part}
 use Rattle.lines.specs.Texts.{Written}
 use Rattle.lines.specs.declared.line.Span.{Span}
 
+abbrev of_part : Part → Option Span
+of_part p = Some (record { at = p.at; len = p.len })
+
 pub one_value : (a b : Option Span) → value_read a ≡ value_read b → a ≡ b
-one_value (Some s) (Some t) e =
-    let q = some_inj (record { at = s.at; len = s.len }) (record { at = t.at; len = t.len }) e in
-    let x : s ≡ t = cc (ap (λ (p : Part). p.at) q, ap (λ (p : Part). p.len) q) in
-    ap Some x
+one_value (Some s) (Some t) e = ap of_part (some_inj (record { at = s.at; len = s.len }) (record { at = t.at; len = t.len }) e)
 one_value (Some s) None e = some_none (record { at = s.at; len = s.len }) e
 one_value None (Some t) e = none_some (record { at = t.at; len = t.len }) e
 one_value None None e = refl

@@ -1,5 +1,5 @@
 // Lower-case hex.
-ghost use Rattle.std.specs.Prelude.{◌≡◌, true, ◌+◌, ◌≤◌, length};
+ghost use Rattle.std.specs.Prelude.{◌≡◌, true, ◌+◌, ◌<◌, ◌≤◌, length};
 ghost use Rattle.names.specs.Splice.{splice};
 ghost use Rattle.lines.specs.Answers.{outcome};
 ghost use Rattle.lines.specs.Hex.{is_digit, value_of, hexed, bytes_of};
@@ -15,7 +15,8 @@ pub fn is_digit(b: u8) -> bool
 // What a digit says.
 fn digit_value(b: u8) -> u8
     requires { is_digit b ≡ true }
-    ensures { result ≡ value_of b }
+    ensures value { result ≡ value_of b }
+    ensures small { result < 16 }
 {
     if b <= b'9' { b - b'0' } else { b - b'a' + 10 }
 }
@@ -33,8 +34,9 @@ fn unhex_into(out: &mut [u8], at: usize, s: &[u8])
     requires s_in_bounds { at + length (bytes_of s.now) ≤ length out.old }
     ensures { out.new ≡ splice out.old at (bytes_of s.now) }
 {
-    for (i, pair) in s.chunks_exact(2).enumerate() {
-        out[at + i] = digit_value(pair[0]) * 16 + digit_value(pair[1]);
+    let (pairs, _) = s.as_chunks::<2>();
+    for (i, [high, low]) in pairs.iter().enumerate() {
+        out[at + i] = digit_value(*high) * 16 + digit_value(*low);
     }
 }
 

@@ -33,8 +33,11 @@ fn digits_say(text: &[u8]) -> Option<usize>
 pub fn number_of(text: &[u8]) -> Option<usize>
     ensures { number_read result ≡ held (number_of text.now) }
 {
-    match text {
-        [] | [b'0', _, ..] => None,
-        _ => digits_say(text),
+    if text.is_empty() {
+        return None;
     }
+    if text[0] == b'0' && text.len() > 1 {
+        return None;
+    }
+    digits_say(text)
 }

@@ -34,9 +34,9 @@ fn hex_into(out: &mut [u8], at: usize, bytes: &[u8]) -> usize
     ensures out_after { out.new ≡ splice out.old at (hex_of bytes.now) }
 {
     for (i, b) in bytes.iter().enumerate() {
-        let p = at + 2 * i;
-        out[p] = digit_for(*b / 16);
-        out[p + 1] = digit_for(*b % 16);
+        let place = at + 2 * i;
+        out[place] = digit_for(*b / 16);
+        out[place + 1] = digit_for(*b % 16);
     }
     at + 2 * bytes.len()
 }
@@ -48,14 +48,13 @@ pub fn decimal_into(digits: &mut [u8; 20], n: u64) -> usize
     ensures digits_len { length digits.new ≡ 20 }
 {
     let mut m = n;
-    for i in (1..20).rev() {
+    for i in (0..20).rev() {
         digits[i] = b'0' + (m % 10) as u8;
         m /= 10;
         if m == 0 {
             return i;
         }
     }
-    digits[0] = b'0' + m as u8;
     0
 }
 
@@ -94,7 +93,7 @@ pub fn put_number_line(out: &mut [u8], at: usize, key: &[u8], n: u64) -> Option<
 pub fn put_hex_line(out: &mut [u8], at: usize, key: &[u8], bytes: &[u8]) -> Option<usize>
     ensures { outcome result out.new ≡ written out.old at (line_of key.now (hex_of bytes.now)) }
 {
-    if bytes.len() > out.len() / 2 || !line_room(out.len(), at, key.len(), 2 * bytes.len()) {
+    if !line_room(out.len(), at, key.len(), 2 * bytes.len()) {
         return None;
     }
     let a = put_key(out, at, key);
