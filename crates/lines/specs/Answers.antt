@@ -6,8 +6,11 @@ use Rattle.lines.specs.Places.{Part}
 use Rattle.lines.specs.Texts.{Written}
 use Rattle.lines.specs.declared.line.Span.{Span}
 
+abbrev pub part : Span → Part
+part s = record { at = s.at; len = s.len }
+
 abbrev pub value_read : Option Span → maybe.Option Part
-value_read (Some s) = maybe.some (record { at = s.at; len = s.len })
+value_read (Some s) = maybe.some (part s)
 value_read None = maybe.none
 
 abbrev pub number_read : Option ℕ → maybe.Option ℕ
