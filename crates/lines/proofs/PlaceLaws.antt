@@ -7,7 +7,6 @@ use native.Mathlib.Omega.{arith}
 use lib.Dec.{ltb}
 use lib.ListN.{length, take, drop, length-take, length-drop}
 use borrow.Author.Tests.{lt-ltb, le-ltb, ltb-true}
-use Rattle.std.specs.Prelude as code
 use Rattle.std.proofs.Common.{nat_eq, rules}
 use Rattle.std.specs.Bool.{Decides}
 use Rattle.std.specs.Cmp.Lexicographic.{pointwise}
@@ -18,8 +17,6 @@ use Rattle.model.proofs.ByteLaws.{same_eq, same_of}
 use Rattle.names.specs.Places.{index_of}
 use Rattle.lines.specs.Lines.{starts}
 use Rattle.lines.specs.Places.{Part, line_len, value_at, Told, told, bind}
-use Rattle.lines.specs.Answers.{value_read}
-use Rattle.lines.specs.declared.line.Span.{Span}
 
 -- a text begins with a key only if it is as long
 pub starts_long : (key l : Bytes) → starts key l ≡ true → length key ≤ length l
@@ -80,9 +77,6 @@ value_inside key s at {p} e = go (ltb (line_len s at) (length (drop at s))) refl
 -- what a call found, by the form of its answer
 pub from : {A B : Type 0} (f : A → B) {x y : A} {z : B} → f x ≡ z → x ≡ y → z ≡ f y
 from f e q = sym e ∙ ap f q
-
-pub inside : (key s : Bytes) (at : ℕ) {r : code.Option Span} {p : Span} → value_read r ≡ value_at key s at → r ≡ code.Some p → p.at + p.len < length s
-inside key s at e q = (value_inside key s at (from value_read e q)).1
 
 -- What a line told comes from, and where nothing is told
 pub value_of : {A B : Type 0} (x : Option A) (f : A → Option B) (b : B) → bind x f ≡ some b → (a : A) × (x ≡ some a) × (f a ≡ some b)

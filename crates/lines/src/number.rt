@@ -5,7 +5,7 @@ ghost use Rattle.lines.specs.Answers.{number_read};
 ghost use Rattle.lines.specs.Numbers.{is_decimal, says_after, number_of, most, capped, held};
 
 // The largest number that is told; it stands for all above it too.
-pub const MOST: usize = 4611686018427387904;
+pub const MOST: usize = 1 << 62;
 
 // A number with one digit more behind it, if the byte is a digit.
 fn with_digit(n: usize, b: u8) -> Option<usize>

@@ -43,7 +43,6 @@ fn hex_into(out: &mut [u8], at: usize, bytes: &[u8]) -> usize
 
 // Puts the digits of a number at the end of the twenty bytes, and gives the place where they start.
 pub fn decimal_into(digits: &mut [u8; 20], n: u64) -> usize
-    requires { length digits.old ≡ 20 }
     ensures digits_after { drop result digits.new ≡ decimal n }
     ensures digits_len { length digits.new ≡ 20 }
 {

@@ -4,7 +4,7 @@ use Rattle.lines.proofs.TextLaws.{digits_begin, digits_end, digits_last, digits_
 use Rattle.lines.proofs.text.decimal_into.Goals as goal
 
 pub loop-i-init : goal.loop-i-init
-loop-i-init c = digits_begin _ _ (omega arith) c.requires
+loop-i-init c = digits_begin _ _ (omega arith) c.told-digits
 
 pub returns-then-m-eq0-clause-digits_after : goal.returns-then-m-eq0-clause-digits_after
 returns-then-m-eq0-clause-digits_after c = digits_last _ _ c.loop-i-test.true c.loop-i.invariant c.if-m-eq0.true
