@@ -11,20 +11,14 @@ use lib.ListN.{length, get_or, drop, drop_of_length-le}
 use lib.Seq.{drop-cons}
 use borrow.Author.Tests.{le-leb, lt-leb, leb-true, leb-false, lt-ltb, ltb-true, ltb-false, eq-eqb, ne_eqb}
 use Rattle.model.specs.Bytes.{Bytes}
-use Rattle.model.proofs.Basics.{and_left, and_right}
 use Rattle.lines.specs.Numbers.{is_decimal, says_after, number_of, most, capped, held}
 use Rattle.lines.specs.Texts.{decimal_from, decimal}
+use Rattle.lines.proofs.PlaceLaws.{if_of, if_none}
 use Rattle.lines.proofs.TextLaws.{next_below}
 
 -- Digits
-pub no_digit : (b : ℕ) → b < 48 → false ≡ is_decimal b
-no_digit b h = rw (lt-leb 48 b h)
-
 pub digit_test : (b : ℕ) → 48 ≤ b → leb b 57 ≡ is_decimal b
 digit_test b h = rw (le-leb 48 b h)
-
-pub digit_within : (b : ℕ) → is_decimal b ≡ true → (48 ≤ b) × (b ≤ 57)
-digit_within b e = (leb-true 48 b (and_left (leb 48 b) (leb b 57) e), leb-true b 57 (and_right (leb 48 b) (leb b 57) e))
 
 -- The cut
 pub cap_is : (n : ℕ) → n ≤ most → n ≡ capped n
@@ -68,28 +62,27 @@ pub record Numbering (s : Bytes) (i n : ℕ) : Type 0 where
   pub small : n ≤ most
   pub rest : held (says_after 0 s) ≡ held (says_after n (drop i s))
 
-pub numbering_begin : (s : Bytes) → Numbering s 0 0
-numbering_begin s = record { within = omega arith; small = omega arith; rest = refl }
-
 module _ {s : Bytes} {i n : ℕ} (at : Numbering s i n) where
   pub numbering_end : length s ≤ i → some n ≡ held (says_after 0 s)
   unfolding says_after
   numbering_end h = ap some (cap_is n at.small) ∙ sym (at.rest ∙ rw (drop_of_length-le s h))
 
   module _ (h : i < length s) where
-    pub numbering_stop : is_decimal (get_or s i 0) ≡ false → none ≡ held (says_after 0 s)
+    pub numbering_stop : none ≡ cond (is_decimal (get_or s i 0)) (some (capped (n * 10 + (get_or s i 0 - 48)))) none → none ≡ held (says_after 0 s)
     unfolding says_after
-    numbering_stop e = sym (at.rest ∙ rw (drop-cons s i 0 h, e))
+    numbering_stop e = sym (at.rest ∙ rw (drop-cons s i 0 h, if_none (is_decimal (get_or s i 0)) (capped (n * 10 + (get_or s i 0 - 48))) (sym e)))
 
-    pub numbering_more : is_decimal (get_or s i 0) ≡ true → {m : ℕ} → m ≡ capped (n * 10 + (get_or s i 0 - 48)) → Numbering s (i + 1) m
+    pub numbering_more : {m : ℕ} → some m ≡ cond (is_decimal (get_or s i 0)) (some (capped (n * 10 + (get_or s i 0 - 48)))) none → Numbering s (i + 1) m
     unfolding says_after
-    numbering_more e {m} q = record {
-      within = omega arith;
-      small = rw q (cap_small (n * 10 + (get_or s i 0 - 48)));
-      rest =
-          at.rest ∙ rw (add-one i, drop-cons s i 0 h, e)
-          (says_capped (drop (suc i) s) (n * 10 + (get_or s i 0 - 48)) ∙ ap (λ (j : ℕ). held (says_after j (drop (suc i) s))) (sym q));
-    }
+    numbering_more {m} e =
+        let (d, q) = if_of (is_decimal (get_or s i 0)) (capped (n * 10 + (get_or s i 0 - 48))) m (sym e) in
+        record {
+          within = omega arith;
+          small = rw (sym q) (cap_small (n * 10 + (get_or s i 0 - 48)));
+          rest =
+              at.rest ∙ rw (add-one i, drop-cons s i 0 h, d)
+              (says_capped (drop (suc i) s) (n * 10 + (get_or s i 0 - 48)) ∙ ap (λ (j : ℕ). held (says_after j (drop (suc i) s))) q);
+        }
 
 -- No leading zero
 pub number_none : (s : Bytes) → length s ≡ 0 → none ≡ held (number_of s)
@@ -137,7 +130,7 @@ one_back n after h = says_digit 0 n after h ∙ ap (λ (j : ℕ). says_after j a
 
 more_back : (k n : ℕ) (after : Bytes) → n < 10 ^ suc (suc k) → Back (suc k) → 10 ≤ n → says_after 0 (decimal_from (suc k) (n / 10) ((48 + n % 10) ∷ after)) ≡ says_after n after
 more_back k n after h ih g =
-    ih (n / 10) ((48 + n % 10) ∷ after) (next_below k n h)
+    ih (n / 10) ((48 + n % 10) ∷ after) (next_below (suc k) n h)
     ∙ says_digit (n / 10) (n % 10) after (omega arith) ∙ ap (λ (j : ℕ). says_after j after) (omega arith)
 
 pub says_back : (k : ℕ) → Back (suc k)
@@ -166,7 +159,7 @@ leads (suc k) n after p h = go (ltb n 10) refl (leads k)
     go true e ih = one_leads n after p
     go false e ih =
         let g = ltb-false n 10 e in
-        ih (n / 10) ((48 + n % 10) ∷ after) (omega arith) (next_below k n h)
+        ih (n / 10) ((48 + n % 10) ∷ after) (omega arith) (next_below (suc k) n h)
 
 number_zero : number_of (decimal 0) ≡ some 0
 unfolding number_of says_after decimal decimal_from

@@ -7,15 +7,16 @@ use native.Mathlib.Omega.{arith}
 use lib.Dec.{ltb}
 use lib.ListN.{length, take, drop, length-take, length-drop}
 use borrow.Author.Tests.{lt-ltb, le-ltb, ltb-true}
+use Rattle.std.proofs.Common.{nat_eq, rules}
+use Rattle.std.specs.Bool.{Decides}
+use Rattle.std.specs.Cmp.Lexicographic.{pointwise}
+use Rattle.std.proofs.lemmas.Slice.Eq.{bytes_eq-Decides}
 use Rattle.model.specs.Bytes.{Bytes, same}
 use Rattle.model.proofs.Basics.{none_some, some_none, some_inj}
-use Rattle.model.proofs.ByteLaws.{same_eq}
+use Rattle.model.proofs.ByteLaws.{same_eq, same_of}
 use Rattle.names.specs.Places.{index_of}
 use Rattle.lines.specs.Lines.{starts}
 use Rattle.lines.specs.Places.{Part, line_len, value_at, Told, told, bind}
-use Rattle.lines.specs.Answers.{value_read}
-use Rattle.lines.specs.declared.line.Value.{Value}
-use Rattle.lines.specs.declared.line.Value.TheVariants.{At}
 
 -- a text begins with a key only if it is as long
 pub starts_long : (key l : Bytes) → starts key l ≡ true → length key ≤ length l
@@ -23,35 +24,38 @@ starts_long key l e =
     let q = simp length-take at (ap length (same_eq (take (length key) l) key e)) in
     omega (arith, q)
 
+-- comparing byte by byte tells whether two texts are the same
+pub same_test : (a b : Bytes) → same a b ≡ pointwise nat_eq a b
+same_test a b =
+    let h : Decides (same a b) (a ≡ b) = (same_eq a b, same_of a b) in
+    search (rules, bytes_eq-Decides)
+
 -- The line at a place, of which n bytes stand before the newline
-module _ (key s : Bytes) (at : ℕ) {rest : Bytes} {n : ℕ} (er : rest ≡ drop at s) (en : n ≡ index_of 10 rest) where
-  pub no_newline : length rest ≤ n → none ≡ value_at key s at
+module _ (key s : Bytes) (at : ℕ) {rest : Bytes} (er : rest ≡ drop at s) where
+  pub no_newline : index_of 10 rest ≡ length rest → none ≡ value_at key s at
   unfolding value_at
   no_newline h =
-      let e : ltb (line_len s at) (length (drop at s)) ≡ false = rw (← er, ← en) (le-ltb n (length rest) h) in
+      let e : ltb (line_len s at) (length (drop at s)) ≡ false = rw (← er) (le-ltb (index_of 10 rest) (length rest) (omega arith)) in
       rw e
 
   -- its text begins with the key, or not
-  module _ (h : n < length rest) {f g : Bytes} (ef : f ≡ take n rest) (eg : g ≡ take (length key) f) {b : Bool} (eb : b ≡ same g key) where
+  module _ {n : ℕ} (h : (n ≡ index_of 10 rest) × (n < length rest)) where
     line_there : ltb (line_len s at) (length (drop at s)) ≡ true
-    line_there = rw (← er, ← en) (lt-ltb n (length rest) h)
+    line_there = rw (← er, ← h.0) (lt-ltb n (length rest) h.1)
 
-    begins : starts key (take (line_len s at) (drop at s)) ≡ b
-    begins = rw (← er, ← en, ← ef, ← eg, ← eb)
+    begins : {t : Bool} → pointwise nat_eq (take (length key) (take n rest)) key ≡ t → starts key (take (line_len s at) (drop at s)) ≡ t
+    begins e = rw (← er, ← h.0) (same_test (take (length key) (take n rest)) key ∙ e)
 
-    pub key_fits : b ≡ true → (length key ≤ n) × (at + n < length s)
-    key_fits t =
-        let q = starts_long key (take (line_len s at) (drop at s)) (begins ∙ t) in
-        let l : length (take (line_len s at) (drop at s)) ≤ n = rw (← er, ← en, length-take) (omega arith) in
-        (omega (arith, q, l), omega (arith, ap length er, length-drop at s))
-
-    pub has_key : b ≡ true → some (record { at = at + length key; len = n - length key }) ≡ value_at key s at
+    pub other_key : pointwise nat_eq (take (length key) (take n rest)) key ≡ false → none ≡ value_at key s at
     unfolding value_at
-    has_key t = rw (line_there, begins, t, ← er, ← en)
+    other_key e = rw (line_there, begins e)
 
-    pub other_key : b ≡ false → none ≡ value_at key s at
+    pub has_key : {v : Bytes} → (pointwise nat_eq (take (length key) (take n rest)) key ≡ true) × (v ≡ drop (length key) (take n rest)) × (length v + length key ≡ length (take n rest)) →
+        some (record { at = at + length key; len = length v }) ≡ value_at key s at
     unfolding value_at
-    other_key t = rw (line_there, begins, t)
+    has_key {v} (e, _, l) =
+        let q : length v ≡ n - length key = omega (arith, l, length-take n rest, h.1) in
+        rw (line_there, begins e, q, ← er, ← h.0)
 
 -- a value ends before the end of the input, after the place of its line
 pub value_inside : (key s : Bytes) (at : ℕ) {p : Part} → value_at key s at ≡ some p → (at ≤ p.at) × (p.at + p.len < length s)
@@ -73,9 +77,6 @@ value_inside key s at {p} e = go (ltb (line_len s at) (length (drop at s))) refl
 -- what a call found, by the form of its answer
 pub from : {A B : Type 0} (f : A → B) {x y : A} {z : B} → f x ≡ z → x ≡ y → z ≡ f y
 from f e q = sym e ∙ ap f q
-
-pub inside : (key s : Bytes) (at : ℕ) {r : Value} {x n : ℕ} → value_read r ≡ value_at key s at → r ≡ At x n → x + n < length s
-inside key s at e q = (value_inside key s at (from value_read e q)).1
 
 -- What a line told comes from, and where nothing is told
 pub value_of : {A B : Type 0} (x : Option A) (f : A → Option B) (b : B) → bind x f ≡ some b → (a : A) × (x ≡ some a) × (f a ≡ some b)

@@ -1,25 +1,23 @@
--- What the enums of this crate mean in the definitions. Assumes nothing.
-use Rattle.std.specs.Prelude.{ℕ}
-use Rattle.std.proofs.Math.Option.{Option, none, some}
+-- What the answers of this crate's functions mean in the definitions. Assumes nothing.
+use Rattle.std.specs.Prelude.{ℕ, Option, Some, None}
+use Rattle.std.proofs.Math.Option as maybe
 use Rattle.model.specs.Bytes.{Bytes}
 use Rattle.lines.specs.Places.{Part}
 use Rattle.lines.specs.Texts.{Written}
-use Rattle.lines.specs.declared.line.Value.{Value}
-use Rattle.lines.specs.declared.line.Value.TheVariants as value
-use Rattle.lines.specs.declared.number.Number.{Number}
-use Rattle.lines.specs.declared.number.Number.TheVariants as number
-use Rattle.lines.specs.declared.text.Put.{Put}
-use Rattle.lines.specs.declared.text.Put.TheVariants as put
+use Rattle.lines.specs.declared.line.Span.{Span}
 
-abbrev pub value_read : Value → Option Part
-value_read (value.At at len) = some (record { at = at; len = len })
-value_read value.Broken = none
+abbrev pub part : Span → Part
+part s = record { at = s.at; len = s.len }
 
-abbrev pub number_read : Number → Option ℕ
-number_read (number.Is n) = some n
-number_read number.Refused = none
+abbrev pub value_read : Option Span → maybe.Option Part
+value_read (Some s) = maybe.some (part s)
+value_read None = maybe.none
+
+abbrev pub number_read : Option ℕ → maybe.Option ℕ
+number_read (Some n) = maybe.some n
+number_read None = maybe.none
 
 -- what a write gave, with the bytes afterwards
-abbrev pub outcome : Put → Bytes → Written
-outcome (put.At n) d = record { next = some n; out = d }
-outcome put.Refused d = record { next = none; out = d }
+abbrev pub outcome : Option ℕ → Bytes → Written
+outcome (Some n) d = record { next = maybe.some n; out = d }
+outcome None d = record { next = maybe.none; out = d }

@@ -1,48 +1,31 @@
 // Lower-case hex.
-ghost use Rattle.std.specs.Prelude.{◌≡◌, true, ◌+◌, ◌≤◌, length};
+ghost use Rattle.std.specs.Prelude.{◌≡◌, true, ◌+◌, ◌<◌, ◌≤◌, length};
 ghost use Rattle.names.specs.Splice.{splice};
 ghost use Rattle.lines.specs.Answers.{outcome};
 ghost use Rattle.lines.specs.Hex.{is_digit, value_of, hexed, bytes_of};
 ghost use Rattle.lines.specs.Texts.{decoded};
 
-use crate::text::Put;
-
 // Whether a byte is a digit.
 pub fn is_digit(b: u8) -> bool
     ensures { result ≡ is_digit b }
 {
-    if b <= 57 {
-        48 <= b
-    } else {
-        if b <= 102 { 97 <= b } else { false }
-    }
+    matches!(b, b'0'..=b'9' | b'a'..=b'f')
 }
 
 // What a digit says.
 fn digit_value(b: u8) -> u8
     requires { is_digit b ≡ true }
-    ensures { result ≡ value_of b }
+    ensures value { result ≡ value_of b }
+    ensures small { result < 16 }
 {
-    if b <= 57 { b - 48 } else { b - 87 }
+    if b <= b'9' { b - b'0' } else { b - b'a' + 10 }
 }
 
 // Whether a text is digits, two to each byte.
 pub fn is_hex(s: &[u8]) -> bool
     ensures { result ≡ hexed s.now }
 {
-    let mut i = 0;
-    while i + 1 < s.len() {
-        if is_digit(s[i]) {
-            if is_digit(s[i + 1]) {
-                i += 2;
-            } else {
-                return false;
-            }
-        } else {
-            return false;
-        }
-    }
-    s.len() <= i
+    s.len() % 2 == 0 && s.iter().all(|b| is_digit(*b))
 }
 
 // Writes the bytes that digits say.
@@ -51,24 +34,20 @@ fn unhex_into(out: &mut [u8], at: usize, s: &[u8])
     requires s_in_bounds { at + length (bytes_of s.now) ≤ length out.old }
     ensures { out.new ≡ splice out.old at (bytes_of s.now) }
 {
-    let n = s.len() / 2;
-    let mut i = 0;
-    while i < n {
-        out[at + i] = digit_value(s[2 * i]) * 16 + digit_value(s[2 * i + 1]);
-        i += 1;
+    let (pairs, _) = s.as_chunks::<2>();
+    for (i, [high, low]) in pairs.iter().enumerate() {
+        out[at + i] = digit_value(*high) * 16 + digit_value(*low);
     }
 }
 
 // Writes the bytes that a text says from a place on, if it is hex and they fit.
-pub fn decode(out: &mut [u8], at: usize, s: &[u8]) -> Put
+pub fn decode(out: &mut [u8], at: usize, s: &[u8]) -> Option<usize>
     ensures { outcome result out.new ≡ decoded out.old at s.now }
 {
-    if is_hex(s) {
-        let n = s.len() / 2;
-        if crate::text::has_room(out.len(), at, n) {
-            unhex_into(out, at, s);
-            return Put::At(at + n);
-        }
+    let n = s.len() / 2;
+    if !is_hex(s) || !crate::text::has_room(out.len(), at, n) {
+        return None;
     }
-    Put::Refused
+    unhex_into(out, at, s);
+    Some(at + n)
 }

@@ -1,65 +1,43 @@
 // Numbers in decimal, without leading zeros.
-ghost use Rattle.std.specs.Prelude.{◌≡◌, true, ◌+◌, ◌-◌, ◌*◌, ◌≤◌};
+ghost use Rattle.std.specs.Prelude.{◌≡◌, ◌+◌, ◌-◌, ◌*◌, ◌≤◌, cond};
+ghost use Rattle.std.proofs.Math.Option.{none, some};
 ghost use Rattle.lines.specs.Answers.{number_read};
 ghost use Rattle.lines.specs.Numbers.{is_decimal, says_after, number_of, most, capped, held};
 
 // The largest number that is told; it stands for all above it too.
-pub const MOST: usize = 4611686018427387904;
+pub const MOST: usize = 1 << 62;
 
-// The number that a text says, or that it says none.
-#[derive(Clone, Copy)]
-pub enum Number {
-    Is(usize),
-    Refused,
-}
-
-// Whether a byte is a decimal digit.
-fn is_decimal(b: u8) -> bool
-    ensures { result ≡ is_decimal b }
+// A number with one digit more behind it, if the byte is a digit.
+fn with_digit(n: usize, b: u8) -> Option<usize>
+    ensures { number_read result ≡ cond (is_decimal b) (some (capped (n * 10 + (b - 48)))) none }
 {
-    if b < 48 { false } else { b <= 57 }
-}
-
-// A number with one digit more behind it.
-fn with_digit(n: usize, b: u8) -> usize
-    requires { is_decimal b ≡ true }
-    ensures { result ≡ capped (n * 10 + (b - 48)) }
-{
-    if MOST / 10 < n {
-        return MOST;
+    if !b.is_ascii_digit() {
+        return None;
     }
-    let m = n * 10 + (b - 48) as usize;
-    if m <= MOST { m } else { MOST }
+    let more = n.saturating_mul(10).saturating_add((b - b'0') as usize);
+    Some(more.min(MOST))
 }
 
 // The number that digits say, if all bytes are digits.
-fn digits_say(text: &[u8]) -> Number
+fn digits_say(text: &[u8]) -> Option<usize>
     ensures { number_read result ≡ held (says_after 0 text.now) }
 {
-    let mut i = 0;
     let mut n = 0;
-    while i < text.len() {
-        if is_decimal(text[i]) {
-            n = with_digit(n, text[i]);
-            i += 1;
-        } else {
-            return Number::Refused;
-        }
+    for b in text {
+        n = with_digit(n, *b)?;
     }
-    Number::Is(n)
+    Some(n)
 }
 
 // The number that a text says.
-pub fn number_of(text: &[u8]) -> Number
+pub fn number_of(text: &[u8]) -> Option<usize>
     ensures { number_read result ≡ held (number_of text.now) }
 {
-    if text.len() == 0 {
-        return Number::Refused;
+    if text.is_empty() {
+        return None;
     }
-    if text[0] == b'0' {
-        if 1 < text.len() {
-            return Number::Refused;
-        }
+    if text[0] == b'0' && text.len() > 1 {
+        return None;
     }
     digits_say(text)
 }

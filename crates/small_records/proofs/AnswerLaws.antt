@@ -1,19 +1,20 @@
 -- An answer is decided by what it means, so that each contract of this crate admits but one. Assumes nothing.
-use Prim.Native.Nat.{ℕ}
-use mathlib.Core.Path.{◌≡◌, refl, ap}
+use Prim.Native.Nat.{ℕ, zero, suc}
+use mathlib.Core.Path.{◌≡◌, refl, sym, ap, ◌∙◌}
 use native.Mathlib.Omega.{arith}
+use Rattle.std.specs.Prelude.{Option, Some, None, Result, Ok, Err}
 use Rattle.model.specs.Tree.{Mode}
 use Rattle.names.specs.Answers.{as_mode}
 use Rattle.names.proofs.AnswerLaws.{one_kind}
-use Rattle.small_records.specs.Answers.{as_op, next_read, as_form}
+use Rattle.small_records.specs.Answers.{as_op, found_as, line_number, next_read, as_form}
 use Rattle.small_records.specs.Records as def
 use Rattle.small_records.specs.Places as def-places
 use Rattle.small_records.specs.declared.record.Op.{Op}
 use Rattle.small_records.specs.declared.record.Op.TheVariants as op
-use Rattle.small_records.specs.declared.record.RecordRead.{RecordRead}
-use Rattle.small_records.specs.declared.record.RecordRead.TheVariants as read
-use Rattle.small_records.specs.declared.form.Form.{Form}
-use Rattle.small_records.specs.declared.form.Form.TheVariants as form
+use Rattle.small_records.specs.declared.record.EditRecord.{EditRecord}
+use Rattle.small_records.specs.declared.record.BadLine.{BadLine}
+use Rattle.small_records.specs.declared.record.BadLine.TheVariants as line
+use Rattle.small_records.specs.declared.form.BadForm.{BadForm}
 
 put_inj : (m n : Mode) → def.put m ≡ def.put n → m ≡ n
 put_inj m n e = cc
@@ -32,21 +33,45 @@ one_op op.Leaf op.Leaf e = refl
 found_inj : (f g : def-places.Found) → def-places.found f ≡ def-places.found g → f ≡ g
 found_inj f g e = cc
 
-pub one_next : (a b : RecordRead) → next_read a ≡ next_read b → a ≡ b
-one_next (read.EditRecord o p n i m x) (read.EditRecord o' p' n' i' m' x') e =
-    let q = found_inj _ _ e in
-    cc (one_op o o' (ap (λ (f : def-places.Found). f.op) q), ap (λ (f : def-places.Found). f.path.at) q, ap (λ (f : def-places.Found). f.path.len) q, ap (λ (f : def-places.Found). f.id.at) q, ap (λ (f : def-places.Found). f.id.len) q, ap (λ (f : def-places.Found). f.next) q)
-one_next (read.EditRecord o p n i m x) (read.Bad k) e = absurd (let z : ◌≡◌ {A = ℕ} 0 1 = cc in omega arith)
-one_next (read.EditRecord o p n i m x) read.End e = absurd (let z : ◌≡◌ {A = ℕ} 0 1 = cc in omega arith)
-one_next (read.Bad j) (read.EditRecord o p n i m x) e = absurd (let z : ◌≡◌ {A = ℕ} 0 1 = cc in omega arith)
-one_next (read.Bad j) (read.Bad k) e = cc
-one_next (read.Bad j) read.End e = absurd (let z : ◌≡◌ {A = ℕ} 0 1 = cc in omega arith)
-one_next read.End (read.EditRecord o p n i m x) e = absurd (let z : ◌≡◌ {A = ℕ} 0 1 = cc in omega arith)
-one_next read.End (read.Bad k) e = absurd (let z : ◌≡◌ {A = ℕ} 0 1 = cc in omega arith)
-one_next read.End read.End e = refl
+found_parts : Op → def-places.Found → EditRecord
+found_parts o f = record { op = o; path = record { at = f.path.at; len = f.path.len }; id = record { at = f.id.at; len = f.id.len }; next = f.next }
 
-pub one_form : (a b : Form) → as_form a ≡ as_form b → a ≡ b
-one_form (form.Bad m) (form.Bad n) e = cc
-one_form (form.Bad m) (form.Good n) e = absurd (let z : ◌≡◌ {A = ℕ} 0 1 = cc in omega arith)
-one_form (form.Good m) (form.Bad n) e = absurd (let z : ◌≡◌ {A = ℕ} 0 1 = cc in omega arith)
-one_form (form.Good m) (form.Good n) e = cc
+one_found : (a b : EditRecord) → found_as a ≡ found_as b → a ≡ b
+unfolding found_parts
+one_found a b e = ap (found_parts a.op) e ∙ ap (λ (o : Op). found_parts o (found_as b)) (one_op a.op b.op (ap (λ (f : def-places.Found). f.op) e))
+
+line_of : ℕ → BadLine
+line_of zero = line.Op
+line_of (suc zero) = line.Path
+line_of (suc (suc zero)) = line.Kind
+line_of (suc (suc (suc n))) = line.Id
+
+line_back : (a : BadLine) → line_of (line_number a) ≡ a
+unfolding line_of
+line_back line.Op = refl
+line_back line.Path = refl
+line_back line.Kind = refl
+line_back line.Id = refl
+
+pub one_line : (a b : BadLine) → line_number a ≡ line_number b → a ≡ b
+one_line a b e = sym (line_back a) ∙ ap line_of e ∙ line_back b
+
+pub one_next : (a b : Result (Option EditRecord) BadLine) → next_read a ≡ next_read b → a ≡ b
+one_next (Ok (Some r)) (Ok (Some r')) e = ap (λ (x : EditRecord). Ok (Some x)) (one_found r r' (found_inj (found_as r) (found_as r') e))
+one_next (Ok (Some r)) (Ok None) e = absurd (let z : ◌≡◌ {A = ℕ} 0 1 = cc in omega arith)
+one_next (Ok (Some r)) (Err c) e = absurd (let z : ◌≡◌ {A = ℕ} 0 1 = cc in omega arith)
+one_next (Ok None) (Ok (Some r)) e = absurd (let z : ◌≡◌ {A = ℕ} 0 1 = cc in omega arith)
+one_next (Ok None) (Ok None) e = refl
+one_next (Ok None) (Err c) e = absurd (let z : ◌≡◌ {A = ℕ} 0 1 = cc in omega arith)
+one_next (Err b) (Ok (Some r)) e = absurd (let z : ◌≡◌ {A = ℕ} 0 1 = cc in omega arith)
+one_next (Err b) (Ok None) e = absurd (let z : ◌≡◌ {A = ℕ} 0 1 = cc in omega arith)
+one_next (Err b) (Err c) e = ap Err (one_line b c cc)
+
+line_inj : (m n : ℕ) → def.bad_line m ≡ def.bad_line n → m ≡ n
+line_inj m n e = cc
+
+pub one_form : (a b : Result ℕ BadForm) → as_form a ≡ as_form b → a ≡ b
+one_form (Ok m) (Ok n) e = cc
+one_form (Ok m) (Err b) e = absurd (let z : ◌≡◌ {A = ℕ} 0 1 = cc in omega arith)
+one_form (Err a) (Ok n) e = absurd (let z : ◌≡◌ {A = ℕ} 0 1 = cc in omega arith)
+one_form (Err a) (Err b) e = ap (λ (n : ℕ). Err (record { line = n })) (line_inj a.line b.line e)

@@ -16,7 +16,7 @@ use Rattle.lines.specs.Lines.{lines}
 use Rattle.small_records.specs.Records.{Verb, Op, put, good_id, EditRecord, at_op, Read, bad, good, more, read, reading, Form, bad_line, records, form_of}
 use Rattle.lines.specs.Places.{Part, text_at, past, Told}
 use Rattle.small_records.specs.Places.{op_at, path_at, kind_at, id_at, Found, record_found, Next, nothing, broken, found, or_broken, next_at}
-use Rattle.small_records.proofs.NextLaws.{at_end, path_parts, id_parts, op_inside, path_inside, kind_inside, id_inside}
+use Rattle.small_records.proofs.NextLaws.{path_parts, id_parts, op_inside, path_inside, kind_inside, id_inside}
 use Rattle.lines.proofs.TextLaws.{length_bytes}
 use Rattle.small_records.proofs.ReadLaws.{follow, next_reads}
 
@@ -29,30 +29,30 @@ pub record Standing (w : ℕ) (s : Bytes) (at : ℕ) (f : Found) : Type 0 where
   pub id_within : f.id.at + f.id.len < length s
   pub id_good : good_id w f.op (text_at s f.id) ≡ true
 
--- what stands at a place, and which of its lines can break the form
+-- what stands at a place
 abbrev Bounds : ℕ → Bytes → ℕ → Next → Type 0
 Bounds w s at nothing = Unit {0}
-Bounds w s at (broken k) = k < 4
+Bounds w s at (broken k) = Unit {0}
 Bounds w s at (found f) = Standing w s at f
 
 module _ (w : ℕ) (s : Bytes) (at : ℕ) where
   bounds_id : (p : Part) → p.at + p.len < length s → hexed (text_at s p) ≡ true → (k : Told Op) → at < k.next → (i : Option Part) → id_at w s k.what k.next ≡ i →
       Bounds w s at (or_broken 3 i (λ i. found (record { op = k.what; path = p; id = i; next = past i })))
-  bounds_id p y x k h none e = omega arith
+  bounds_id p y x k h none e = tt
   bounds_id p y x k h (some i) e =
       let b = id_inside s k.next w k.what e in
       record { forward = omega arith; inside = omega arith; path_within = y; path_hex = x; id_within = b.1; id_good = (id_parts s k.next w k.what e).1 }
 
   bounds_kind : (v : Verb) (p : Part) → at < past p → p.at + p.len < length s → hexed (text_at s p) ≡ true → (k : Option (Told Op)) → kind_at s v (past p) ≡ k →
       Bounds w s at (or_broken 2 k (λ k. or_broken 3 (id_at w s k.what k.next) (λ i. found (record { op = k.what; path = p; id = i; next = past i }))))
-  bounds_kind v p h y x none e = omega arith
+  bounds_kind v p h y x none e = tt
   bounds_kind v p h y x (some k) e =
       let b = kind_inside s (past p) v e in
       bounds_id p y x k (omega arith) (id_at w s k.what k.next) refl
 
   bounds_path : (o : Told Verb) → at < o.next → (p : Option Part) → path_at s o.next ≡ p →
       Bounds w s at (or_broken 1 p (λ p. or_broken 2 (kind_at s o.what (past p)) (λ k. or_broken 3 (id_at w s k.what k.next) (λ i. found (record { op = k.what; path = p; id = i; next = past i })))))
-  bounds_path o h none e = omega arith
+  bounds_path o h none e = tt
   bounds_path o h (some p) e =
       let b = path_inside s o.next e in
       bounds_kind o.what p (omega arith) b.1 (path_parts s o.next e).1 (kind_at s o.what (past p)) refl
@@ -65,17 +65,14 @@ module _ (w : ℕ) (s : Bytes) (at : ℕ) where
           Bounds w s at (cond t nothing (or_broken 0 o (λ o. or_broken 1 (path_at s o.next) (λ p.
           or_broken 2 (kind_at s o.what (past p)) (λ k. or_broken 3 (id_at w s k.what k.next) (λ i. found (record { op = k.what; path = p; id = i; next = past i })))))))
       go true o e = tt
-      go false none e = omega arith
+      go false none e = tt
       go false (some o) e =
           let b = op_inside s at e in
           bounds_path o (omega arith) (path_at s o.next) refl
 
-  -- the same, for a record or a broken line that was found there
+  -- the same, for a record that was found there
   pub standing : {f : Found} → next_at w s at ≡ found f → Standing w s at f
   standing e = rw e at bounds
-
-  pub broken_below : {k : ℕ} → next_at w s at ≡ broken k → k < 4
-  broken_below e = rw e at bounds
 
 -- an upsert's digits say an id of w bytes
 pub id_wide : (w : ℕ) (m : Mode) (v : Bytes) → good_id w (put m) v ≡ true → (hexed v ≡ true) × (length (bytes_of v) ≡ w)
@@ -88,10 +85,6 @@ id_wide w m v e =
 abbrev plus : ℕ → Form → Form
 plus c (bad_line n) = bad_line n
 plus c (records m) = records (c + m)
-
-plus_none : (f : Form) → f ≡ plus 0 f
-plus_none (bad_line n) = refl
-plus_none (records m) = ap records (omega arith)
 
 plus_more : (c : ℕ) (r : EditRecord) (x : Read) → plus c (form_of (more r x)) ≡ plus (c + 1) (form_of x)
 plus_more c r (bad n) = refl
@@ -106,9 +99,6 @@ pub record Forming (w : ℕ) (s : Bytes) (at count : ℕ) : Type 0 where
 pub form_long : (w : ℕ) (s : Bytes) → 65536 < length s → bad_line 0 ≡ form_of (reading w s)
 unfolding reading
 form_long w s h = rw (lt-leb (length s) 65536 h)
-
-pub form_begin : (w : ℕ) (s : Bytes) → Forming w s 0 0
-form_begin w s = record { within = omega arith; few = omega arith; rest = plus_none (form_of (read w 1 (lines s) at_op)) }
 
 module _ {w : ℕ} {s : Bytes} {at count : ℕ} (here : Forming w s at count) where
   on : {x : Next} → next_at w s at ≡ x → form_of (read w 1 (lines s) at_op) ≡ plus count (form_of (follow w (4 * count + 1) s x))
@@ -135,9 +125,6 @@ module _ {w : ℕ} {s : Bytes} {at count : ℕ} (here : Forming w s at count) wh
 
     pub form_none : next_at w s at ≡ nothing → records count ≡ form_of (reading w s)
     form_none e = ap records (omega arith) ∙ sym (on e) ∙ whole
-
-    pub form_end : length s ≤ at → records count ≡ form_of (reading w s)
-    form_end h = form_none (sym (at_end w s at h))
 
 -- Going over a good input record by record: the records from a place on
 pub record Left (w : ℕ) (s : Bytes) (at : ℕ) (rs : List EditRecord) : Type 0 where

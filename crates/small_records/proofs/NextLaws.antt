@@ -6,11 +6,17 @@ use mathlib.Core.Option.{none, some}
 use native.Mathlib.Omega.{arith}
 use lib.ListN.{length}
 use borrow.Author.Tests.{le-leb, lt-leb}
+use Rattle.std.specs.Prelude.{Option, Some, None, Result, Ok, Err}
+use Rattle.std.specs.Option.{ok_or}
+use Rattle.std.specs.Result.{IsErrAnd}
 use Rattle.model.specs.Bytes.{Bytes}
 use Rattle.lines.specs.Hex.{hexed}
 use Rattle.small_records.specs.Records.{op_key, path_key, kind_key, id_key, Verb, verb_of, Op, op_of, good_id}
 use Rattle.lines.specs.Places.{Part, text_at, past, value_at, Told, told}
 use Rattle.small_records.specs.Places.{op_at, path_at, kind_at, id_at, nothing, broken, found, next_at}
+use Rattle.small_records.specs.Answers.{line_number, next_read}
+use Rattle.small_records.specs.declared.record.EditRecord.{EditRecord}
+use Rattle.small_records.specs.declared.record.BadLine.{BadLine}
 use Rattle.lines.proofs.PlaceLaws.{value_inside, value_of, told_of, if_of}
 
 module _ (w : ℕ) (s : Bytes) (at : ℕ) where
@@ -42,6 +48,13 @@ module _ (w : ℕ) (s : Bytes) (at : ℕ) where
           pub whole_record : {i : Part} → id_at w s k m ≡ some i → found (record { op = k; path = p; id = i; next = past i }) ≡ next_at w s at
           unfolding next_at
           whole_record e = rw (lt-leb (length s) at h, eo, ep, ek, e)
+
+-- an error that `?` passes on, of a line that was not read
+pub passed_on : {T : Type 0} {o : Option T} (b : BadLine) {d : BadLine} → o ≡ None → ◌≡◌ {A = Result T BadLine} (Err d) (ok_or o b) →
+    (r : Result (Option EditRecord) BadLine) → IsErrAnd r (λ x. x ≡ d) → next_read r ≡ broken (line_number b)
+passed_on {o = None} b n e (Ok x) q = absurd q
+passed_on {o = None} b n e (Err x) q = ap (λ (x : BadLine). broken (line_number x)) (q ∙ cc)
+passed_on {o = Some t} b n e r q = cc
 
 -- Where the lines end
 module _ (s : Bytes) (at : ℕ) where

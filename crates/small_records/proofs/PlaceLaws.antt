@@ -1,71 +1,81 @@
 -- Laws of the lines by their places: what a line's parts say decides what is found. Assumes nothing.
-use Prim.Native.Nat.{ℕ, ◌+◌, ◌*◌, ◌/◌}
+use Prim.Native.Nat.{ℕ, ◌*◌, ◌/◌}
 use mathlib.Core.Path.{◌≡◌, refl, sym, ◌∙◌}
 use mathlib.Core.List.{[], ◌∷◌}
 use mathlib.Core.Bool.{Bool, true, false, cond}
 use mathlib.Core.Option.{Option, none, some}
 use native.Mathlib.Omega.{arith}
 use lib.Dec.{eqb}
-use lib.ListN.{length, take, drop}
+use lib.ListN.{length}
 use borrow.Author.Tests.{eq-eqb, ne_eqb, eqb-true, eqb-false}
 use Rattle.model.specs.Bytes.{Bytes, is_nil}
 use Rattle.model.specs.Tree.{Mode}
 use Rattle.model.specs.Raw.{mode_of}
-use Rattle.model.specs.Walk.{RemoveKind}
+use Rattle.model.specs.Walk.{RemoveKind, ANY, LEAF}
+use Rattle.std.proofs.Common.{nat_eq}
+use Rattle.std.specs.Bool.{then_some}
+use Rattle.std.specs.Cmp.Lexicographic.{pointwise}
+use Rattle.lines.specs.Answers.{part, value_read}
 use Rattle.lines.specs.Hex.{hexed}
-use Rattle.small_records.specs.Records.{op_key, path_key, kind_key, id_key, Verb, adds, takes, verb_of, Op, put, drops, put_as, op_of, good_id}
-use Rattle.lines.specs.Answers.{value_read}
-use Rattle.lines.specs.declared.line.Value.{Value}
-use Rattle.lines.specs.declared.line.Value.TheVariants.{At, Broken}
-use Rattle.lines.specs.Places.{value_at, told}
-use Rattle.lines.proofs.PlaceLaws.{from}
+use Rattle.lines.specs.declared.line.Span.{Span}
+use Rattle.lines.proofs.PlaceLaws.{same_test}
+use Rattle.small_records.specs.Answers.{as_op, op_read}
+use Rattle.small_records.specs.declared.record.Op as code
+use Rattle.small_records.specs.Records.{op_key, path_key, kind_key, id_key, upsert_word, remove_word, leaf_word, Verb, adds, takes, verb_of, Op, put, drops, put_as, op_of, good_id}
+use Rattle.lines.specs.Places.{Part, text_at, past, value_at, told}
 use Rattle.small_records.specs.Places.{op_at, path_at, kind_at, id_at}
 use Rattle.lines.proofs.HexLaws.{hex_even}
 
 -- The four lines: what their values say
-module _ (s : Bytes) (at : ℕ) {r : Value} where
-  module _ {x n : ℕ} {t : Bytes} where
-    pub op_is : value_read r ≡ value_at op_key s at → r ≡ At x n → t ≡ take n (drop x s) → {o : Option Verb} → o ≡ verb_of t → told o (x + n + 1) ≡ op_at s at
-    unfolding op_at
-    op_is e q et eo = rw (from value_read e q, ← et, ← eo)
-
-    pub path_is : value_read r ≡ value_at path_key s at → r ≡ At x n → t ≡ take n (drop x s) → {b : Bool} → b ≡ hexed t → cond b (some (record { at = x; len = n })) none ≡ path_at s at
-    unfolding path_at
-    path_is e q et eb = rw (from value_read e q, ← et, ← eb)
-
-    pub kind_is : (v : Verb) → value_read r ≡ value_at kind_key s at → r ≡ At x n → t ≡ take n (drop x s) → {o : Option Op} → o ≡ op_of v t → told o (x + n + 1) ≡ kind_at s v at
-    unfolding kind_at
-    kind_is v e q et eo = rw (from value_read e q, ← et, ← eo)
-
-    pub id_is : (w : ℕ) (k : Op) → value_read r ≡ value_at id_key s at → r ≡ At x n → t ≡ take n (drop x s) → {b : Bool} → b ≡ good_id w k t → cond b (some (record { at = x; len = n })) none ≡ id_at w s k at
-    unfolding id_at
-    id_is w k e q et eb = rw (from value_read e q, ← et, ← eb)
-
-  pub no_op : value_read r ≡ value_at op_key s at → r ≡ Broken → none ≡ op_at s at
+module _ (s : Bytes) (at : ℕ) where
+  pub no_op : none ≡ value_at op_key s at → none ≡ op_at s at
   unfolding op_at
-  no_op e q = rw (from value_read e q)
+  no_op e = rw (← e)
 
-  pub no_path : value_read r ≡ value_at path_key s at → r ≡ Broken → none ≡ path_at s at
+  pub no_path : none ≡ value_at path_key s at → none ≡ path_at s at
   unfolding path_at
-  no_path e q = rw (from value_read e q)
+  no_path e = rw (← e)
 
-  pub no_kind : (v : Verb) → value_read r ≡ value_at kind_key s at → r ≡ Broken → none ≡ kind_at s v at
+  pub no_kind : (v : Verb) → none ≡ value_at kind_key s at → none ≡ kind_at s v at
   unfolding kind_at
-  no_kind v e q = rw (from value_read e q)
+  no_kind v e = rw (← e)
 
-  pub no_id : (w : ℕ) (k : Op) → value_read r ≡ value_at id_key s at → r ≡ Broken → none ≡ id_at w s k at
+  pub no_id : (w : ℕ) (k : Op) → none ≡ value_at id_key s at → none ≡ id_at w s k at
   unfolding id_at
-  no_id w k e q = rw (from value_read e q)
+  no_id w k e = rw (← e)
+
+  module _ (p : Part) {t : Bytes} (et : t ≡ text_at s p) where
+    pub op_is : some p ≡ value_at op_key s at → {o : Option Verb} → o ≡ verb_of t → told o (past p) ≡ op_at s at
+    unfolding op_at
+    op_is e eo = rw (← e, ← et, ← eo)
+
+    pub path_is : some p ≡ value_at path_key s at → {b : Bool} → b ≡ hexed t → cond b (some p) none ≡ path_at s at
+    unfolding path_at
+    path_is e eb = rw (← e, ← et, ← eb)
+
+    pub kind_is : (v : Verb) → some p ≡ value_at kind_key s at → {o : Option Op} → o ≡ op_of v t → told o (past p) ≡ kind_at s v at
+    unfolding kind_at
+    kind_is v e eo = rw (← e, ← et, ← eo)
+
+    pub id_is : (w : ℕ) (k : Op) → some p ≡ value_at id_key s at → {b : Bool} → b ≡ good_id w k t → cond b (some p) none ≡ id_at w s k at
+    unfolding id_at
+    id_is w k e eb = rw (← e, ← et, ← eb)
+
+-- an answer that is given where a test holds
+pub value_if : (b : Bool) (v : Span) → value_read (then_some b v) ≡ cond b (some (part v)) none
+value_if true v = refl
+value_if false v = refl
+
+pub op_if : (b : Bool) (o : code.Op) → op_read (then_some b o) ≡ cond b (some (as_op o)) none
+op_if true o = refl
+op_if false o = refl
+
+-- the three words, told by comparing byte by byte
+pub verb_says : (t : Bytes) → verb_of t ≡ cond (pointwise nat_eq t upsert_word) (some adds) (cond (pointwise nat_eq t remove_word) (some (takes ANY)) (cond (pointwise nat_eq t leaf_word) (some (takes LEAF)) none))
+unfolding verb_of
+verb_says t = rw (same_test t upsert_word, same_test t remove_word, same_test t leaf_word)
 
 -- nothing is said only where there are no bytes
-pub nil_empty : (l : Bytes) → length l ≡ 0 → is_nil l ≡ true
-nil_empty [] e = refl
-nil_empty (x ∷ l) e = absurd (omega arith)
-
-pub nil_full : (l : Bytes) → (length l ≡ 0 → ⊥) → is_nil l ≡ false
-nil_full [] e = absurd (e refl)
-nil_full (x ∷ l) e = refl
-
 pub nil_test : (l : Bytes) → eqb (length l) 0 ≡ is_nil l
 nil_test [] = refl
 nil_test (x ∷ l) = ne_eqb (length (x ∷ l)) 0 (λ e. absurd (omega arith))
@@ -76,13 +86,9 @@ module _ (t : Bytes) where
   unfolding op_of
   kind_of_upsert e em = rw (e, ← em)
 
-  pub kind_of_removal : {v : Verb} {k : RemoveKind} → v ≡ takes k → length t ≡ 0 → some (drops k) ≡ op_of v t
+  pub kind_of_removal : {v : Verb} {k : RemoveKind} → v ≡ takes k → {b : Bool} → b ≡ eqb (length t) 0 → cond b (some (drops k)) none ≡ op_of v t
   unfolding op_of
-  kind_of_removal e h = rw (e, nil_empty t h)
-
-  pub kind_in_removal : {v : Verb} (k : RemoveKind) → v ≡ takes k → (length t ≡ 0 → ⊥) → none ≡ op_of v t
-  unfolding op_of
-  kind_in_removal k e h = rw (e, nil_full t h)
+  kind_of_removal e q = rw (e, q, nil_test t)
 
 -- What the id may say
 half : (n w : ℕ) → n ≡ 2 * (n / 2) → eqb (n / 2) w ≡ eqb n (2 * w)

@@ -2,24 +2,17 @@
 ghost use Rattle.std.specs.Prelude.{◌≤◌, length};
 ghost use Rattle.std.specs.Counts.{IsPrefixLen};
 
-use names::mode::EntryKind;
-use names::raw::EntryRead;
+use names::write::Entry;
 
 // Writes an entry where there is room for it, and gives the place after what was written.
-fn put_next(out: &mut [u8], to: usize, kind: EntryKind, name: &[u8], id: &[u8]) -> usize
+fn put_next(out: &mut [u8], to: usize, e: Entry<'_>) -> usize
     requires { to ≤ length out.old }
     ensures { result ≤ length out.new }
 {
-    if 512 < name.len() {
+    if e.name.len() > 512 || e.id.len() > 64 || out.len() - to < 1024 {
         return to;
     }
-    if 64 < id.len() {
-        return to;
-    }
-    if out.len() - to < 1024 {
-        return to;
-    }
-    names::write::put_entry(out, to, kind, name, id)
+    names::write::put_entry(out, to, e)
 }
 
 // Writes so many entries of a raw tree, one after the other, and gives how many bytes they are.
@@ -28,23 +21,17 @@ fn rewrite(raw: &[u8], entries: usize, out: &mut [u8]) -> usize
 {
     let mut at = 0;
     let mut to = 0;
-    let mut left = entries;
-    while 0 < left {
-        let EntryRead::Entry {
-            kind,
-            name_at,
-            name_len,
-            id_at,
-            next,
-        } = names::raw::read_entry(raw, at, 20)
-        else {
-            return to;
+    for _ in 0..entries {
+        let Some(entry) = names::raw::read_entry(raw, at, 20) else {
+            break;
         };
-        let name = names::part::between(raw, name_at, name_len);
-        let id = names::part::between(raw, id_at, 20);
-        to = put_next(out, to, kind, name, id);
-        at = next;
-        left -= 1;
+        let e = Entry {
+            kind: entry.kind,
+            name: names::part::between(raw, entry.name_at, entry.name_len),
+            id: names::part::between(raw, entry.id_at, 20),
+        };
+        to = put_next(out, to, e);
+        at = entry.next;
     }
     to
 }
@@ -53,5 +40,5 @@ fn rewrite(raw: &[u8], entries: usize, out: &mut [u8]) -> usize
 pub fn is_same_again(raw: &[u8], entries: usize) -> bool {
     let mut out = [0u8; 32768];
     let n = rewrite(raw, entries, &mut out);
-    names::order::same_bytes(&out[..n], raw)
+    &out[..n] == raw
 }

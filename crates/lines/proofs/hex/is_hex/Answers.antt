@@ -1,19 +1,15 @@
--- `lines::hex::is_hex` meets its contract: the pairs passed are digits, so what is left decides; a single byte at the end is no pair. Assumes nothing.
-use mathlib.Core.Path.{sym, ◌∙◌}
-use Rattle.lines.proofs.HexLaws.{hex_begin, hex_end, hex_first, hex_second, hex_more}
+-- `lines::hex::is_hex` meets its contract: an even number of digits are pairs of them, and an odd number are none. Assumes nothing.
+use borrow.Author.Tests.{tests, ne_eqb}
+use mathlib.Core.Path.{◌∙◌}
+use Rattle.std.proofs.Common.{rules}
+use Rattle.std.proofs.lemmas.Iterator.{YieldsList-from_slice}
+use Rattle.std.proofs.lemmas.Iterator.Search.{all_from_yields_List}
+use Rattle.lines.specs.Hex.{is_digit}
+use Rattle.lines.proofs.HexLaws.{hexed_even, hexed_odd}
 use Rattle.lines.proofs.hex.is_hex.Goals as goal
 
-pub loop-i-init : goal.loop-i-init
-loop-i-init c = hex_begin _
+pub returns-then-s-eq0 : goal.returns-then-s-eq0
+returns-then-s-eq0 c = all_from_yields_List is_digit _ _ _ c.all.ensures.ran (YieldsList-from_slice c.args.s.now cc) (λ x b q k. search (rules, tests)) ∙ hexed_even _ c.if-s-eq0.true
 
-pub loop-i-preserved : goal.loop-i-preserved
-loop-i-preserved c = hex_more c.loop-i.invariant c.loop-i-test.true (sym c.is_digit.ensures ∙ c.if-is_digit.true) (sym c.is_digit-then-is_digit.ensures ∙ c.if-is_digit-2.true)
-
-pub returns-else-is_digit-2 : goal.returns-else-is_digit-2
-returns-else-is_digit-2 c = hex_second c.loop-i.invariant c.loop-i-test.true (sym c.is_digit.ensures ∙ c.if-is_digit.true) (sym c.is_digit-then-is_digit.ensures ∙ c.if-is_digit-2.false)
-
-pub returns-else-is_digit : goal.returns-else-is_digit
-returns-else-is_digit c = hex_first c.loop-i.invariant c.loop-i-test.true (sym c.is_digit.ensures ∙ c.if-is_digit.false)
-
-pub returns : goal.returns
-returns c = hex_end c.loop-i.invariant c.loop-i-test.false
+pub returns-else-s-eq0 : goal.returns-else-s-eq0
+returns-else-s-eq0 c = ne_eqb _ 0 c.if-s-eq0.false ∙ hexed_odd _ c.if-s-eq0.false

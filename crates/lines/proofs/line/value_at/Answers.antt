@@ -1,26 +1,14 @@
 -- `lines::line::value_at` meets its contract: a line ends at the first newline, and its value stands behind the key where it begins with that. Assumes nothing.
-use Prim.Native.Nat.{◌+◌, ◌≤◌, ◌<◌}
-use lib.ListN.{length}
-use native.Mathlib.Omega.{arith}
-use Rattle.lines.proofs.PlaceLaws.{no_newline, key_fits, has_key, other_key}
+use mathlib.Core.Path.{ap, ◌∙◌}
+use Rattle.lines.specs.Answers.{value_read}
+use Rattle.lines.proofs.PlaceLaws.{no_newline, other_key, has_key}
 use Rattle.lines.proofs.line.value_at.Goals as goal
 
-pub returns-then-rest-n : goal.returns-then-rest-n
-returns-then-rest-n c = no_newline _ _ _ c.after-rest.ensures c.index_of-n.ensures c.if-rest-n.true
+pub returns-in_err-n-clause-value : goal.returns-in_err-n-clause-value
+returns-in_err-n-clause-value c = ap value_read c.from_residual.ensures ∙ no_newline _ _ _ c.after-rest.ensures c.in_err-n.ensures
 
--- where the text begins with the key, the key's length is within it
-fits : (c : goal.Then-same_bytes) → let a = c.args in
-    (length a.key.now ≤ c.index_of-n.result) × (a.at + c.index_of-n.result < length a.input.now)
-fits c = key_fits _ _ _ c.after-rest.ensures c.index_of-n.ensures c.if-rest-n.false c.front.ensures c.front-start.ensures c.same_bytes.ensures c.if-same_bytes.true
+pub returns-in_err-value-clause-value : goal.returns-in_err-value-clause-value
+returns-in_err-value-clause-value c = ap value_read c.from_residual-in_err-value.ensures ∙ other_key _ _ _ c.after-rest.ensures c.in_ok-n.ensures c.in_err-value.ensures.cases
 
-pub overflow_add-result : goal.overflow_add-result
-overflow_add-result c = omega (arith, fits c)
-
-pub overflow_sub-result : goal.overflow_sub-result
-overflow_sub-result c = omega (arith, fits c)
-
-pub returns-then-same_bytes : goal.returns-then-same_bytes
-returns-then-same_bytes c = has_key _ _ _ c.after-rest.ensures c.index_of-n.ensures c.if-rest-n.false c.front.ensures c.front-start.ensures c.same_bytes.ensures c.if-same_bytes.true
-
-pub returns-else-same_bytes : goal.returns-else-same_bytes
-returns-else-same_bytes c = other_key _ _ _ c.after-rest.ensures c.index_of-n.ensures c.if-rest-n.false c.front.ensures c.front-start.ensures c.same_bytes.ensures c.if-same_bytes.false
+pub returns-clause-value : goal.returns-clause-value
+returns-clause-value c = has_key _ _ _ c.after-rest.ensures c.in_ok-n.ensures c.in_ok-value.ensures.cases

@@ -1,104 +1,48 @@
 -- `small_records::record::next_record` meets its contract: the lines are read in their order, so the first that is not good gives its number. Assumes nothing.
 use native.Mathlib.Omega.{arith}
-use lib.ListN.{length}
-use Prim.Native.Nat.{◌+◌, ◌<◌}
-use mathlib.Core.Option.{some}
-use mathlib.Core.Path.{◌≡◌}
-use Rattle.small_records.proofs.NextLaws.{at_end, bad_op, bad_path_lem, bad_kind, bad_id, whole_record, path_inside, id_inside}
+use mathlib.Core.Path.{◌∙◌}
+use Rattle.small_records.proofs.NextLaws.{passed_on, at_end, bad_op, bad_path_lem, bad_kind, bad_id, whole_record, path_inside, id_inside}
 use Rattle.lines.proofs.PlaceLaws.{from}
-use Rattle.small_records.specs.Places.{op_at, path_at, kind_at, id_at}
 use Rattle.lines.specs.Answers.{value_read}
-use Rattle.small_records.specs.Answers.{as_verb, op_line, as_op, kind_line}
+use Rattle.small_records.specs.Answers.{as_op, op_line, kind_line}
 use Rattle.small_records.proofs.record.next_record.Goals as goal
 
 pub returns-then-input-at : goal.returns-then-input-at
 returns-then-input-at c = at_end _ _ _ c.if-input-at.true
 
-pub returns-in_default : goal.returns-in_default
-returns-in_default c = bad_op _ _ _ c.if-input-at.false (from op_line c.op_at.ensures c.in_default.is)
+pub returns-in_err-verb : goal.returns-in_err-verb
+returns-in_err-verb c =
+    let n = c.in_err-verb.ensures.ok_part in
+    passed_on _ n c.in_err-verb.ensures.value c.from_residual.result c.from_residual.ensures.1
+    ∙ bad_op _ _ _ c.if-input-at.false (from op_line c.op_at.ensures n)
 
--- what each line that was read says of the definition
-op-read : (c : goal.In_default-path_at) → let a = c.args in
-    op_at a.input.now a.at ≡ some (record { what = as_verb c.in-Line.verb; next = c.in-Line.next })
-op-read c = from op_line c.op_at.ensures c.in-Line.is
+pub returns-in_err-path : goal.returns-in_err-path
+returns-in_err-path c =
+    let n = c.in_err-path.ensures.ok_part in
+    passed_on _ n c.in_err-path.ensures.value c.from_residual-in_err-path.result c.from_residual-in_err-path.ensures.1
+    ∙ bad_path_lem _ _ _ c.if-input-at.false (from op_line c.op_at.ensures c.in_ok-verb.ensures.ok_part) (from value_read c.path_at.ensures n)
 
-pub returns-in_default-path_at : goal.returns-in_default-path_at
-returns-in_default-path_at c = bad_path_lem _ _ _ c.if-input-at.false (op-read c) (from value_read c.path_at.ensures c.in_default-path_at.is)
+pub past-requires : goal.past-requires
+past-requires c =
+    let i = path_inside c.args.input.now c.in_ok-verb.verb.next (from value_read c.path_at.ensures c.in_ok-path.ensures.ok_part) in
+    omega arith
 
-path-read : (c : goal.In-At) → let a = c.args in
-    path_at a.input.now c.in-Line.next ≡ some (record { at = c.in-At.path_at; len = c.in-At.path_len })
-path-read c = from value_read c.path_at.ensures c.in-At.is
+pub returns-in_err-op : goal.returns-in_err-op
+returns-in_err-op c =
+    let n = c.in_err-op.ensures.ok_part in
+    passed_on _ n c.in_err-op.ensures.value c.from_residual-in_err-op.result c.from_residual-in_err-op.ensures.1
+    ∙ bad_kind _ _ _ c.if-input-at.false (from op_line c.op_at.ensures c.in_ok-verb.ensures.ok_part) (from value_read c.path_at.ensures c.in_ok-path.ensures.ok_part) (rw c.past.ensures at (from kind_line c.kind_at.ensures n))
 
-path-ends : (c : goal.In-At) → let a = c.args in
-    c.in-At.path_at + c.in-At.path_len < length a.input.now
-path-ends c =
-    let a = c.args in
-    (path_inside a.input.now c.in-Line.next (path-read c)).1
+pub returns-in_err-id : goal.returns-in_err-id
+returns-in_err-id c =
+    let n = c.in_err-id.ensures.ok_part in
+    passed_on _ n c.in_err-id.ensures.value c.from_residual-in_err-id.result c.from_residual-in_err-id.ensures.1
+    ∙ bad_id _ _ _ c.if-input-at.false (from op_line c.op_at.ensures c.in_ok-verb.ensures.ok_part) (from value_read c.path_at.ensures c.in_ok-path.ensures.ok_part) (rw c.past.ensures at (from kind_line c.kind_at.ensures c.in_ok-op.ensures.ok_part)) (from value_read c.id_at.ensures n)
 
-pub overflow_add-path_at : goal.overflow_add-path_at
-overflow_add-path_at c = omega (arith, path-ends c)
-
-pub overflow_add-path_at-2 : goal.overflow_add-path_at-2
-overflow_add-path_at-2 c = omega (arith, path-ends c)
-
--- what each line that was read says of the definition
-op-read-2 : (c : goal.In_default-kind_at) → let a = c.args in
-    op_at a.input.now a.at ≡ some (record { what = as_verb c.in-Line.verb; next = c.in-Line.next })
-op-read-2 c = from op_line c.op_at.ensures c.in-Line.is
-
-path-read-2 : (c : goal.In_default-kind_at) → let a = c.args in
-    path_at a.input.now c.in-Line.next ≡ some (record { at = c.in-At.path_at; len = c.in-At.path_len })
-path-read-2 c = from value_read c.path_at.ensures c.in-At.is
-
-pub returns-in_default-kind_at : goal.returns-in_default-kind_at
-returns-in_default-kind_at c = bad_kind _ _ _ c.if-input-at.false (op-read-2 c) (path-read-2 c) (from kind_line c.kind_at.ensures c.in_default-kind_at.is)
-
--- what each line that was read says of the definition
-op-read-3 : (c : goal.In_default-id_at) → let a = c.args in
-    op_at a.input.now a.at ≡ some (record { what = as_verb c.in-Line.verb; next = c.in-Line.next })
-op-read-3 c = from op_line c.op_at.ensures c.in-Line.is
-
-path-read-3 : (c : goal.In_default-id_at) → let a = c.args in
-    path_at a.input.now c.in-Line.next ≡ some (record { at = c.in-At.path_at; len = c.in-At.path_len })
-path-read-3 c = from value_read c.path_at.ensures c.in-At.is
-
-kind-read : (c : goal.In_default-id_at) → let a = c.args in
-    kind_at a.input.now (as_verb c.in-Line.verb) (c.in-At.path_at + c.in-At.path_len + 1)
-    ≡ some (record { what = as_op c.in-Line-kind_at.op; next = c.in-Line-kind_at.id_line })
-kind-read c = from kind_line c.kind_at.ensures c.in-Line-kind_at.is
-
-pub returns-in_default-id_at : goal.returns-in_default-id_at
-returns-in_default-id_at c = bad_id _ _ _ c.if-input-at.false (op-read-3 c) (path-read-3 c) (kind-read c) (from value_read c.id_at.ensures c.in_default-id_at.is)
-
-id-read : (c : goal.In-At-id_at) → let a = c.args in
-    id_at a.width a.input.now (as_op c.in-Line-kind_at.op) c.in-Line-kind_at.id_line ≡ some (record { at = c.in-At-id_at.id_at; len = c.in-At-id_at.id_len })
-id-read c = from value_read c.id_at.ensures c.in-At-id_at.is
-
-id-ends : (c : goal.In-At-id_at) → let a = c.args in
-    c.in-At-id_at.id_at + c.in-At-id_at.id_len < length a.input.now
-id-ends c =
-    let a = c.args in
-    (id_inside a.input.now c.in-Line-kind_at.id_line a.width (as_op c.in-Line-kind_at.op) (id-read c)).1
-
-pub overflow_add-result : goal.overflow_add-result
-overflow_add-result c = omega (arith, id-ends c)
-
-pub overflow_add-result-2 : goal.overflow_add-result-2
-overflow_add-result-2 c = omega (arith, id-ends c)
-
--- what each line that was read says of the definition
-op-read-4 : (c : goal.In-At-id_at) → let a = c.args in
-    op_at a.input.now a.at ≡ some (record { what = as_verb c.in-Line.verb; next = c.in-Line.next })
-op-read-4 c = from op_line c.op_at.ensures c.in-Line.is
-
-path-read-4 : (c : goal.In-At-id_at) → let a = c.args in
-    path_at a.input.now c.in-Line.next ≡ some (record { at = c.in-At.path_at; len = c.in-At.path_len })
-path-read-4 c = from value_read c.path_at.ensures c.in-At.is
-
-kind-read-2 : (c : goal.In-At-id_at) → let a = c.args in
-    kind_at a.input.now (as_verb c.in-Line.verb) (c.in-At.path_at + c.in-At.path_len + 1)
-    ≡ some (record { what = as_op c.in-Line-kind_at.op; next = c.in-Line-kind_at.id_line })
-kind-read-2 c = from kind_line c.kind_at.ensures c.in-Line-kind_at.is
+pub past-requires-2 : goal.past-requires-2
+past-requires-2 c =
+    let i = id_inside c.args.input.now c.in_ok-op.op.next c.args.width (as_op c.in_ok-op.op.what) (from value_read c.id_at.ensures c.in_ok-id.ensures.ok_part) in
+    omega arith
 
 pub returns : goal.returns
-returns c = whole_record _ _ _ c.if-input-at.false (op-read-4 c) (path-read-4 c) (kind-read-2 c) (id-read c)
+returns c = rw c.past-2.ensures (whole_record _ _ _ c.if-input-at.false (from op_line c.op_at.ensures c.in_ok-verb.ensures.ok_part) (from value_read c.path_at.ensures c.in_ok-path.ensures.ok_part) (rw c.past.ensures at (from kind_line c.kind_at.ensures c.in_ok-op.ensures.ok_part)) (from value_read c.id_at.ensures c.in_ok-id.ensures.ok_part))

@@ -18,10 +18,10 @@ short kind name id a b = omega (arith, entry_long (entry kind name id), octal_le
 pub put_entry-requires : goal.put_entry-requires
 put_entry-requires c =
     let a = c.args in
-    omega (arith, short a.kind a.name.now a.id.now (omega arith) (omega arith))
+    omega (arith, short a.e.kind a.e.name.now a.e.id.now (omega arith) (omega arith))
 
 pub returns : goal.returns
 returns c =
     let a = c.args in
-    let l = short a.kind a.name.now a.id.now (omega arith) (omega arith) in
-    omega (arith, c.put_entry.ensures.value, ap length c.put_entry.ensures.out_after, length_splice a.out.now a.to (raw_entry (entry a.kind a.name.now a.id.now)) (omega arith))
+    let l = short a.e.kind a.e.name.now a.e.id.now (omega arith) (omega arith) in
+    omega (arith, c.put_entry.ensures.value, ap length c.put_entry.ensures.out_after, length_splice a.out.now a.to (raw_entry (entry a.e.kind a.e.name.now a.e.id.now)) (omega arith))

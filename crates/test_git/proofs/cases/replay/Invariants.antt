@@ -2,8 +2,8 @@
 use Rattle.std.proofs.Common.{◌≤◌, ◌-◌, length}
 use Rattle.test_git.proofs.cases.replay.Given as goal
 
-abbrev pub invariant-loop-at : goal.invariant-loop-at
-invariant-loop-at g l = l.at ≤ length l.input
+abbrev pub invariant-loop-k : goal.invariant-loop-k
+invariant-loop-k g l = l.at ≤ length l.input
 
-abbrev pub decreases-loop-at : goal.decreases-loop-at
-decreases-loop-at g l = length l.input - l.at
+abbrev pub decreases-loop-k : goal.decreases-loop-k
+decreases-loop-k g l = length l.input - l.at
