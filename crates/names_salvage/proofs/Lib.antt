@@ -1,3 +1,4 @@
+pub mod EntryLaws
 pub mod Examples
 pub mod KeepLaws
 pub mod MendLaws
@@ -7,6 +8,7 @@ pub mod PieceLaws
 pub mod PlaceLaws
 pub mod PutLaws
 pub mod ReportLaws
+pub mod SeekLaws
 pub mod StandLaws
 pub mod TableLaws
 pub mod Theorems
