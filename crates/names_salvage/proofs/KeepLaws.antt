@@ -1,14 +1,13 @@
 -- Laws of an entry that is kept: it goes into the tree where its number goes into the table, the counts grow by it, and the order is changed unless it goes to the end. Assumes nothing.
-use Prim.Native.Nat.{ℕ, zero, suc, ◌+◌, ◌-◌, ◌*◌, ◌≤◌, ◌<◌, Ordering}
+use Prim.Native.Nat.{ℕ, zero, suc, ◌+◌, ◌-◌, ◌≤◌, Ordering}
 use mathlib.Core.Path.{◌≡◌, refl, sym, ap, ap₂, ◌∙◌, subst}
-use mathlib.Core.Bool.{Bool, true, false, cond, not, ◌&&◌, true≢false}
+use mathlib.Core.Bool.{Bool, true, false, cond, ◌&&◌}
 use mathlib.Core.List.{List, [], ◌∷◌, ◌++◌}
 use native.Mathlib.Omega.{arith}
 use lib.Dec.{leb, eqb}
 use Rattle.std.specs.Prelude.{Option, Some, Result, Ok, Err}
 use borrow.Author.Tests.{eq-eqb, ne_eqb, leb-true}
 use lib.ListN.{length, take, drop, length-append, length-drop, take-append-drop}
-use lib.Seq.{length-take-le}
 use Rattle.model.specs.Bytes.{Bytes, cmp, by}
 use Rattle.model.specs.Map.{put, rising, rising_from, is_some}
 use Rattle.model.specs.Raw.{raw_entry, raw_tree}

@@ -1,5 +1,5 @@
 -- Laws of the pass: what was read is the entries' bytes, so that what is left gives the answer of the whole; and entries kept stay kept, so that a limit once passed is passed in the end. Assumes nothing.
-use Prim.Native.Nat.{ℕ, zero, suc, ◌+◌, ◌-◌, ◌≤◌, ◌<◌}
+use Prim.Native.Nat.{ℕ, zero, suc, ◌+◌, ◌≤◌, ◌<◌}
 use mathlib.Core.Path.{◌≡◌, refl, sym, ap, ◌∙◌, subst}
 use mathlib.Core.Bool.{Bool, true, false, cond, ◌&&◌, true≢false}
 use mathlib.Core.List.{List, [], ◌∷◌, ◌++◌, append_assoc}

@@ -1,6 +1,6 @@
 -- Laws of reading an entry as it stands: each test of the bytes is one that the definition makes, in the same order, so the first that fails decides. Assumes nothing.
 use Prim.Native.Nat.{ℕ, suc, ◌+◌, ◌-◌, ◌≤◌, ◌<◌}
-use mathlib.Core.Path.{◌≡◌, refl, sym, ap, ◌∙◌}
+use mathlib.Core.Path.{◌≡◌, sym, ap, ◌∙◌}
 use mathlib.Core.Option.{none, some}
 use native.Mathlib.Numerals.{add-one}
 use native.Mathlib.Omega.{arith}
@@ -9,7 +9,7 @@ use lib.Seq.{drop-drop, length-take-le}
 use borrow.Author.Tests.{le-leb, lt-leb, lt-ltb, le-ltb}
 use Rattle.model.specs.Bytes.{Bytes}
 use Rattle.names.specs.Places.{index_of}
-use Rattle.names_salvage.specs.Pieces.{Piece, piece_of}
+use Rattle.names_salvage.specs.Pieces.{piece_of}
 use Rattle.names_salvage.specs.Answers.{piece_at, StandsAt}
 use Rattle.names_salvage.specs.declared.piece.RawPiece.{RawPiece}
 

@@ -1,5 +1,5 @@
 -- Laws of the place of a name: what the two searches say of the tree, and where an entry goes whose name is not there. Assumes nothing.
-use Prim.Native.Nat.{ℕ, zero, suc, ◌≤◌, Ordering}
+use Prim.Native.Nat.{ℕ, zero, suc, Ordering}
 use mathlib.Core.Path.{◌≡◌, refl, sym, ap, ◌∙◌, subst}
 use mathlib.Core.Bool.{Bool, true, false, true≢false}
 use mathlib.Core.List.{List, [], ◌∷◌, ◌++◌}

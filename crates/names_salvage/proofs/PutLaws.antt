@@ -1,23 +1,20 @@
 -- Laws of writing what is kept: an entry's own bytes are its raw form, and the entries of the table, one after the other, are that of the tree. Assumes nothing.
 use Prim.Native.Nat.{ℕ, zero, suc, ◌+◌, ◌-◌, ◌/◌, ◌%◌, ◌≤◌, ◌<◌}
 use mathlib.Core.Path.{◌≡◌, refl, sym, ap, ◌∙◌, subst}
-use mathlib.Core.Bool.{Bool, true, false, cond, ◌&&◌, true≢false}
+use mathlib.Core.Bool.{true, ◌&&◌}
 use mathlib.Core.List.{List, [], ◌∷◌, ◌++◌}
 use native.Mathlib.Numerals.{add-one}
 use native.Mathlib.Omega.{arith}
 use lib.Dec.{eqb}
-use borrow.Author.Tests.{eqb-true, eqb-false, eq-eqb}
-use lib.ListN.{length, take, drop, get_or, length-append, length-drop}
+use borrow.Author.Tests.{eqb-true}
+use lib.ListN.{length, take, drop, get_or, length-append}
 use lib.Seq.{take_at, take-suc, take_all}
-use Rattle.model.specs.Bytes.{Bytes, has}
+use Rattle.model.specs.Bytes.{Bytes}
 use Rattle.model.specs.Raw.{raw_entry, raw_tree}
 use Rattle.model.specs.Tree.{Entry, Tree, good_name, good_entries}
 use mathlib.Core.Option.{none, some}
 use Rattle.model.proofs.Basics.{some_none, some_inj, and_left, and_right}
-use Rattle.model.proofs.ByteLaws.{has_here, has_past}
-use Rattle.names.specs.Places.{index_of}
 use Rattle.names.specs.Splice.{splice}
-use Rattle.names.proofs.StandingLaws.{no_nul, good_plain}
 use Rattle.names.proofs.WriteLaws.{Wrote, wrote_nothing, wrote_entry, entry_long, raw_snoc}
 use Rattle.names_compact.specs.Compact.{blank}
 use Rattle.names_salvage.specs.Answers.{piece_at, StandsAt, Stands, empty, Lists}

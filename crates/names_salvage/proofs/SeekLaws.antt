@@ -1,22 +1,25 @@
 -- Laws of the search: the slots of a tree's entries stand in the order of its keys, so what the search answers of the slots is told of the tree. Assumes nothing.
-use Prim.Native.Nat.{ℕ, zero, suc, ◌+◌, ◌≤◌, ◌<◌, Ordering}
+use Prim.Native.Nat.{ℕ, zero, suc, ◌≤◌, ◌<◌, Ordering}
 use mathlib.Core.Path.{◌≡◌, refl, sym, ap, ◌∙◌, subst}
 use mathlib.Core.Bool.{Bool, true, false}
-use mathlib.Core.List.{List, [], ◌∷◌, ◌++◌}
-use mathlib.Core.Option.{none}
+use mathlib.Core.List.{List, [], ◌∷◌}
 use native.Mathlib.Omega.{arith}
 use lib.Dec.{eqb}
 use borrow.Author.Tests.{eqb-true, eqb-false}
-use lib.ListN.{length, take, drop, get_or}
+use lib.ListN.{length, get_or}
 use Rattle.std.specs.Prelude.{Result, Ok, Err}
 use Rattle.std.proofs.lemmas.List.{get_or_default}
+use Rattle.std.proofs.lemmas.Fn.{always_returns_same}
+use Rattle.std.specs.Fn.{Called, ComputesKey}
+use denote.Ref.{Bor}
+use denote.Param.Members.{Mut}
 use Rattle.std.specs.Ordering.{ordering_index}
 use Rattle.std.specs.declared.cmp.Ordering as std
 use Rattle.std.specs.declared.cmp.Ordering.TheVariants.{Less, Equal, Greater}
 use Rattle.std.specs.List.Sorted.{IsBinarySearchResult, IsSearchInRange, IsNonDecreasingBy}
-use Rattle.model.specs.Bytes.{Bytes, cmp, by}
-use Rattle.model.specs.Map.{find, put, rising, rising_from, is_some}
-use Rattle.model.specs.Tree.{Entry, Tree, as_kind, key, good_name}
+use Rattle.model.specs.Bytes.{Bytes, cmp}
+use Rattle.model.specs.Map.{find, rising, rising_from, is_some}
+use Rattle.model.specs.Tree.{Tree, as_kind, key, good_name}
 use Rattle.model.proofs.MapLaws.{cmp_eq, cmp_gt, cmp_lt, cmp_trans, cmp_turn, turned_round, above_head, above_tail, rising_tail}
 use Rattle.names.specs.Answers.{as_ordering}
 use Rattle.names_compact.specs.Compact.{blank}
@@ -108,10 +111,18 @@ module _ (raw n : Bytes) (a : Bool) (g : good_name n ≡ true) (vs : List Slot) 
           let q = eqb-false i j e in
           steps _ _ (as_kind a n) (rises t up i j (omega (arith, q)) (omega (arith, l.many))) _ _ (says i (omega arith)) (says j k)
 
-  pub seek_says : (r : Result ℕ ℕ) → IsSearchInRange r (length vs) → IsBinarySearchResult ord vs r → SearchIs t (as_kind a n) r
+  seek_says : (r : Result ℕ ℕ) → IsSearchInRange r (length vs) → IsBinarySearchResult ord vs r → SearchIs t (as_kind a n) r
   seek_says (Ok i) b s = record { is = found (as_kind a n) t up i (omega (arith, l.many)) (is_equal _ (s empty) (says i b)) }
   seek_says (Err i) b s =
       record {
         is = gap (as_kind a n) t i (omega (arith, l.many)) (λ j h. is_less _ ((s goes_up).0 j empty (omega arith) h) (says j (omega arith)))
             (λ j h k. is_greater _ ((s goes_up).1 j empty h (omega (arith, l.many))) (says j (omega (arith, l.many))));
       }
+
+  -- the same of a search by a closure whose calls answer so
+  pub seek_by : {F : Type 0} {f : F} {g : Mut F (Bor Slot × Unit {0}) std.Ordering} (ws : List Slot) → ws ≡ vs → (r : Result ℕ ℕ) → IsSearchInRange r (length ws) →
+      ((o : Slot → std.Ordering) → ComputesKey g o f → IsBinarySearchResult o ws r) → ((b : Bor Slot × Unit {0}) (q : std.Ordering) (f' : F) → Called g f b q f' → (q ≡ ord b.0.now) × (f' ≡ f)) →
+      SearchIs t (as_kind a n) r
+  seek_by {F} {f} {g} ws e r b s c =
+      seek_says r (subst (λ (z : List Slot). IsSearchInRange r (length z)) e b)
+      (subst (λ (z : List Slot). IsBinarySearchResult ord z r) e (s ord (always_returns_same g (λ x q. q ≡ ord x.0.now) f c)))

@@ -1,6 +1,6 @@
 -- Laws of an entry of the table: the bytes from its name's place on are the name, a NUL and the rest, so what a good name shares with them it shares with the name. Assumes nothing.
 use Prim.Native.Nat.{Ordering}
-use Prim.Native.Nat.{ℕ, zero, suc, ◌+◌, ◌-◌, ◌/◌, ◌%◌, ◌≤◌, ◌<◌}
+use Prim.Native.Nat.{ℕ, zero, suc, ◌+◌, ◌/◌, ◌%◌, ◌≤◌, ◌<◌}
 use mathlib.Core.Path.{◌≡◌, refl, sym, ap, ap₂, ◌∙◌, subst}
 use mathlib.Core.Bool.{Bool, true, false, cond, true≢false}
 use mathlib.Core.List.{List, [], ◌∷◌, ◌++◌, append_assoc}
@@ -8,7 +8,7 @@ use native.Mathlib.Omega.{arith}
 use lib.Dec.{leb, ltb, eqb}
 use borrow.Author.Tests.{eq-eqb, ne_eqb, leb-true, leb-false, ltb-true, ltb-false, eqb-true, eqb-false}
 use lib.ListN.{drop_of_length-le, length, take, drop, get_or, length-append, length-drop, length-take, take-append-drop, get_or-eq_default, get_or-append}
-use lib.Seq.{drop-drop, drop_at, take_at, take-length, take-append-le, take_all, append_snoc, get_or-drop, get_or-append_seam, get_or-take}
+use lib.Seq.{drop-drop, drop_at, take-length, take-append-le, take_all, append_snoc, get_or-append_seam, get_or-take}
 use Rattle.model.specs.Bytes.{Bytes, cmp, same}
 use Rattle.model.specs.Raw.{octal, raw_entry}
 use Rattle.model.specs.Tree.{Mode, TREE, BLOB, EXEC, LINK, COMMIT, is_tree, Entry, Tree, as_kind, key, good_name}

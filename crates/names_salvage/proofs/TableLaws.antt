@@ -1,14 +1,13 @@
 -- Laws of the table: a slot goes in where the slots behind its place moved up, and its entry goes into the tree there. Assumes nothing.
 use Prim.Native.Nat.{ℕ, suc, ◌+◌, ◌-◌, ◌≤◌, ◌<◌}
-use mathlib.Core.Path.{◌≡◌, refl, sym, ap, ap₂, ◌∙◌, subst}
+use mathlib.Core.Path.{◌≡◌, refl, sym, ap, ap₂, ◌∙◌}
 use mathlib.Core.Bool.{true, false}
 use mathlib.Core.List.{List, ◌∷◌, ◌++◌, append_assoc}
-use native.Mathlib.Numerals.{add-one}
 use native.Mathlib.Omega.{arith}
 use lib.Dec.{ltb, eqb}
 use borrow.Author.Tests.{ltb-true, ltb-false, eqb-true, eqb-false}
 use lib.ListN.{length, take, drop, get_or, set, length-append, length-take, length-drop, get_or-append}
-use lib.Seq.{paste, length-take-le, take-take, take-append-le, set_split, drop_at, take_at, get_or-take, get_or-drop, get_or-append-add, get_or-append_seam}
+use lib.Seq.{length-take-le, take-take, take-append-le, set_split, drop_at, take_at, get_or-take, get_or-drop, get_or-append-add, get_or-append_seam}
 use Rattle.std.proofs.lemmas.List.{drop-take}
 use Rattle.std.specs.List.{copy_within}
 use Rattle.model.specs.Bytes.{Bytes}

@@ -6,13 +6,12 @@ use mathlib.Core.List.{[], ◌∷◌, ◌++◌, append_assoc, append-nil}
 use mathlib.Core.Option.{none, some}
 use native.Mathlib.Omega.{arith}
 use lib.Dec.{leb, eqb}
-use borrow.Author.Tests.{le-leb, leb-true, lt-ltb, eqb-true}
-use lib.ListN.{length, drop, length-append}
-use lib.Seq.{take-append_seam, take_at, drop_at}
-use Rattle.model.specs.Bytes.{Bytes, cmp, by, has}
+use borrow.Author.Tests.{le-leb, leb-true, eqb-true}
+use lib.ListN.{length, length-append}
+use Rattle.model.specs.Bytes.{Bytes, cmp, by}
 use Rattle.model.specs.Map.{find, put}
-use Rattle.model.specs.Raw.{octal, mode_of, raw_entry, raw_tree, read_tree}
-use Rattle.model.specs.Tree.{Mode, TREE, BLOB, EXEC, LINK, COMMIT, is_tree, Entry, Tree, as_kind, key, entry_of, good_name, good_entries, name_bytes, well_formed}
+use Rattle.model.specs.Raw.{mode_of, raw_tree, read_tree}
+use Rattle.model.specs.Tree.{Mode, is_tree, Entry, Tree, as_kind, key, entry_of, good_name, good_entries, name_bytes, well_formed}
 use Rattle.model.proofs.Basics.{some_none, and_left, and_right}
 use Rattle.model.proofs.MapLaws.{cmp_lt, find_here}
 use Rattle.model.proofs.RawLaws.{read_only, well_entries}
@@ -20,12 +19,11 @@ use Rattle.model.proofs.SoundTrees.{Sound, sound_well, name_plain}
 use Rattle.names.specs.Check.{is_less}
 use Rattle.names.specs.Splice.{splice}
 use Rattle.names.proofs.ModeLaws.{text_read}
-use Rattle.names.proofs.StandingLaws.{no_nul, good_plain}
 use Rattle.names_salvage.specs.Answers.{mended_of}
 use Rattle.names_salvage.specs.Mending.{Mended, nothing, sorted, above, mend1, mend_all, fits, within, Answer, refusal, told, mended}
-use Rattle.names_salvage.specs.Pieces.{Piece, Pieces, piece_of, pieces_of}
+use Rattle.names_salvage.specs.Pieces.{Piece, Pieces, pieces_of}
 use Rattle.names_salvage.proofs.KeepLaws.{sorted_with, below_all}
-use Rattle.names_salvage.proofs.MendedTree.{Untouched, only_well, entry_piece, put_last}
+use Rattle.names_salvage.proofs.MendedTree.{Untouched, only_well, put_last}
 use Rattle.names_salvage.proofs.PassLaws.{pieces_some, pieces_none, piece_nil, mend_cons, mend_nil}
 use Rattle.names_salvage.proofs.EntryLaws.{piece_for, entry_read_lem}
 

@@ -30,13 +30,7 @@ fn fits(entries: usize, bytes: usize) -> bool
 }
 
 // An entry with a good name and mode is kept, unless its name is kept already; nothing, where the entries kept then pass a limit.
-fn keep(
-    raw: &[u8],
-    table: &mut Table,
-    t: Tally,
-    piece: RawPiece<'_>,
-    tree: bool,
-) -> Option<Tally>
+fn keep(raw: &[u8], table: &mut Table, t: Tally, piece: RawPiece<'_>, tree: bool) -> Option<Tally>
     requires { ((w : ℕ) × (m : mending.Mended) × (e : Entry) × Holds raw.now w (slots_of table.old) t m × Enters raw.now w t.at piece tree e)
         × (good_name piece.name.now ≡ true) × (length raw.now ≤ 536870911) }
     ensures { (w : ℕ) (m : mending.Mended) (e : Entry) → Holds raw.now w (slots_of table.old) t m → Enters raw.now w t.at piece.entry tree e

@@ -26,8 +26,6 @@ pub fn report(raw: &[u8], width: usize, out: &mut [u8]) -> Option<usize>
     let mut tree = [0u8; 57344];
     match crate::mend::try_mend(raw, width, &mut tree) {
         Ok(m) => put_done(m, names::part::front(&tree, m.len), out),
-        Err(refusal) => {
-            put_number_line(out, 0, b"code", Mended::from(refusal).code as u64)
-        }
+        Err(refusal) => { put_number_line(out, 0, b"code", Mended::from(refusal).code as u64) }
     }
 }

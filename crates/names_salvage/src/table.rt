@@ -136,14 +136,26 @@ impl Table {
         requires { good_name sought.name.now ≡ true }
         ensures { (t : Tree) → Lists raw.now (take self.now.len self.now.slots) t → rising key t ≡ true → PlaceIs t sought.entry.name.now sought.entry.tree result }
     {
-        let file = self.search(raw, Key { tree: false, ..sought });
+        let file = self.search(
+            raw,
+            Key {
+                tree: false,
+                ..sought
+            },
+        );
         let Err(i) = file else {
             return file;
         };
         if !self.begins_at(raw, i, sought.name) {
             return file;
         }
-        match self.search(raw, Key { tree: true, ..sought }) {
+        match self.search(
+            raw,
+            Key {
+                tree: true,
+                ..sought
+            },
+        ) {
             Err(_) if !sought.tree => file,
             twin => twin,
         }

@@ -25,8 +25,7 @@ of-requires c = let n = c.requires.0.4 in (n.near, omega (arith, name_within n.s
 
 pub insert-requires : goal.insert-requires
 insert-requires c =
-    let h = c.requires.0.3 in
-    (
+    let h = c.requires.0.3 in (
       place_in h c.requires.0.4 (c.place_for.ensures _ h.lists (rising_sorted _)) c.in-Err.is,
       omega (arith, fits_kept (c.count-n.result + 1) (c.args.t.names + length c.args.piece.name.now) (sym c.if-not-fits.false ∙ c.fits.ensures), c.count-n.ensures),
     )

@@ -14,10 +14,10 @@ returns-then-name-le255 c = c.plain_name.ensures ∙ sym (good_is _ (eqb-false _
 pub returns-else-name-le255 : goal.returns-else-name-le255
 returns-else-name-le255 c =
     elim c.if-not-is_empty.branch [
-      then-not-is_empty w ↦ w.t-3-is
+      | then-not-is_empty w ↦ w.t-3-is
           ∙ elim c.if-name-le255.either [
-            inl p ↦ lt-leb _ _ p.1 ∙ name_long _ p.1
-          | inr q ↦ absurd (true≢false (sym q ∙ w.if-not-is_empty.true))
+            | inl p ↦ lt-leb _ _ p.1 ∙ name_long _ p.1
+            | inr q ↦ absurd (true≢false (sym q ∙ w.if-not-is_empty.true))
           ]
-    | else-not-is_empty w ↦ w.t-3-is ∙ ap not w.if-not-is_empty.false ∙ name_empty _ (eqb-true _ _ (sym (w.if-not-is_empty.ensures)))
+      | else-not-is_empty w ↦ w.t-3-is ∙ ap not w.if-not-is_empty.false ∙ name_empty _ (eqb-true _ _ (sym (w.if-not-is_empty.ensures)))
     ]

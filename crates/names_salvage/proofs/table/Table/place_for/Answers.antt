@@ -1,6 +1,6 @@
 -- `names_salvage::table::Table::place_for` meets its contract: a name is there as a file or as a tree; where the entry at the file's place does not begin with it the tree is not there, and would stand there too. Assumes nothing.
 use mathlib.Core.Path.{sym, ◌∙◌}
-use Rattle.names_salvage.proofs.PlaceLaws.{place_found, place_away, place_twin, place_tree, place_file}
+use Rattle.names_salvage.proofs.PlaceLaws.{place_found, place_away}
 use Rattle.names_salvage.proofs.table.Table.place_for.Goals as goal
 
 pub returns-in_default : goal.returns-in_default
