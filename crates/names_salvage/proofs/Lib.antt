@@ -1,4 +1,3 @@
-pub mod EntryLaws
 pub mod Examples
 pub mod KeepLaws
 pub mod MendLaws

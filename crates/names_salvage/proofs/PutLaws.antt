@@ -1,50 +1,54 @@
 -- Laws of writing what is kept: an entry's own bytes are its raw form, and the entries of the table, one after the other, are that of the tree. Assumes nothing.
 use Prim.Native.Nat.{ℕ, zero, suc, ◌+◌, ◌-◌, ◌/◌, ◌%◌, ◌≤◌, ◌<◌}
 use mathlib.Core.Path.{◌≡◌, refl, sym, ap, ◌∙◌, subst}
-use mathlib.Core.Bool.{true, ◌&&◌}
+use mathlib.Core.Bool.{Bool, true, false, cond, ◌&&◌, true≢false}
 use mathlib.Core.List.{List, [], ◌∷◌, ◌++◌}
 use native.Mathlib.Numerals.{add-one}
 use native.Mathlib.Omega.{arith}
 use lib.Dec.{eqb}
-use borrow.Author.Tests.{eqb-true}
+use borrow.Author.Tests.{eqb-true, eqb-false, eq-eqb}
 use lib.ListN.{length, take, drop, get_or, length-append}
 use lib.Seq.{take_at, take-suc, take_all}
-use Rattle.model.specs.Bytes.{Bytes}
+use Rattle.model.specs.Bytes.{Bytes, has}
 use Rattle.model.specs.Raw.{raw_entry, raw_tree}
 use Rattle.model.specs.Tree.{Entry, Tree, good_name, good_entries}
-use mathlib.Core.Option.{none, some}
-use Rattle.model.proofs.Basics.{some_none, some_inj, and_left, and_right}
+use Rattle.model.proofs.Basics.{and_left, and_right}
+use Rattle.model.proofs.ByteLaws.{has_here, has_past}
+use Rattle.names.specs.Places.{index_of}
 use Rattle.names.specs.Splice.{splice}
+use Rattle.names.proofs.StandingLaws.{no_nul, good_plain}
 use Rattle.names.proofs.WriteLaws.{Wrote, wrote_nothing, wrote_entry, entry_long, raw_snoc}
 use Rattle.names_compact.specs.Compact.{blank}
-use Rattle.names_salvage.specs.Answers.{piece_at, StandsAt, Stands, empty, Lists}
-use Rattle.names_salvage.specs.Pieces.{Piece, piece_of}
-use Rattle.names_salvage.specs.declared.piece.RawPiece.{RawPiece}
+use Rattle.names_salvage.specs.Answers.{Stands, empty, Lists}
 use Rattle.names_salvage.specs.declared.table.Slot.{Slot}
-use Rattle.names_salvage.proofs.EntryLaws.{piece_for, entry_read_lem}
+use Rattle.names_salvage.proofs.StandLaws.{name_there}
 
--- the entry of a slot, as it is read where it stands
-module _ {raw : Bytes} {v w : ℕ} {e : Entry} (st : Stands raw v e) (wide : length e.id ≡ w) {at : ℕ} (here : at ≡ v / 8 - 1 - v % 8) where
-  at_is : at ≡ st.at
-  at_is = omega (arith, st.start)
+-- what is before the first of a byte ends there
+pub index_past : (b : ℕ) (n r : Bytes) → has b n ≡ false → index_of b (n ++ (b ∷ r)) ≡ length n
+unfolding index_of
+index_past b [] r h = rw (eq-eqb b b refl)
+index_past b (x ∷ n) r h = go (eqb x b) refl (index_past b n r)
+  where
+    go : (t : Bool) → eqb x b ≡ t → (has b n ≡ false → index_of b (n ++ (b ∷ r)) ≡ length n) → cond t zero (suc (index_of b (n ++ (b ∷ r)))) ≡ suc (length n)
+    go true e ih = absurd (true≢false (sym (has_here b x n (eqb-true x b e)) ∙ h))
+    go false e ih = ap suc (ih (sym (has_past b x n (eqb-false x b e)) ∙ h))
 
-  pub reads : piece_of w (drop at raw) ≡ some (piece_for e st.rest)
-  reads = ap (λ (k : ℕ). piece_of w (drop k raw)) at_is ∙ ap (piece_of w) st.bytes ∙ entry_read_lem w e st.rest st.good wide
+-- the entry of a slot: its name's end, and its bytes
+module _ {raw : Bytes} {v w : ℕ} {e : Entry} (st : Stands raw v e) (wide : length e.id ≡ w) {l : Bytes} (el : l ≡ drop (v / 8) raw) where
+  name_end : index_of 0 l ≡ length e.name
+  name_end = ap (index_of 0) (el ∙ name_there st) ∙ index_past 0 e.name (e.id ++ st.rest) (no_nul e.name (good_plain e.name st.good))
 
-  pub reads_some : piece_of w (drop at raw) ≡ none → ⊥
-  reads_some n = some_none (piece_for e st.rest) (sym reads ∙ n)
+  pub has_end : index_of 0 l ≡ length l → ⊥
+  has_end h = omega (arith, name_end, ap length (el ∙ name_there st), length-append e.name (0 ∷ (e.id ++ st.rest)))
 
-  module _ {p : RawPiece} (sp : StandsAt raw w at p) where
-    same : piece_at raw w p ≡ piece_for e st.rest
-    same = some_inj (piece_at raw w p) (piece_for e st.rest) (sym sp.is ∙ reads)
+  module _ {n m : ℕ} (en : n ≡ index_of 0 l) (em : m ≡ v % 8) where
+    pub piece_long : m + 1 + n + 1 + w ≡ length (raw_entry e)
+    piece_long = omega (arith, st.text, entry_long e, wide, name_end)
 
-    pub long : p.next ≡ at + length (raw_entry e)
-    long = omega (arith, sp.start, sp.end, wide, entry_long e, ap (λ (x : Piece). length x.mode) same, ap (λ (x : Piece). length x.name) same)
-
-    pub piece_bytes : take (p.next - at) (drop at raw) ≡ raw_entry e
-    piece_bytes =
-        ap (λ (k : ℕ). take (p.next - at) (drop k raw)) at_is ∙ ap (take (p.next - at)) st.bytes
-        ∙ take_at (raw_entry e) st.rest (p.next - at) (let q : length (raw_entry e) ≡ p.next - at = omega (arith, long) in q)
+    pub piece_bytes : {at : ℕ} → at ≡ v / 8 - 1 - v % 8 → take (m + 1 + n + 1 + w) (drop at raw) ≡ raw_entry e
+    piece_bytes {at} ea =
+        let a : at ≡ st.at = omega (arith, st.start, ea) in
+        ap (λ (k : ℕ). take (m + 1 + n + 1 + w) (drop k raw)) a ∙ ap (take (m + 1 + n + 1 + w)) st.bytes ∙ take_at (raw_entry e) st.rest (m + 1 + n + 1 + w) (sym piece_long)
 
 -- a write of bytes is one of what they are
 pub put_as_lem : {s s' : Bytes} → s ≡ s' → {r : ℕ} (to : ℕ) {d : Bytes} (d₀ : Bytes) → (r ≡ to + length s) × (d ≡ splice d₀ to s) → (r ≡ to + length s') × (d ≡ splice d₀ to s')

@@ -6,12 +6,13 @@ use mathlib.Core.List.{[], ◌∷◌, ◌++◌, append_assoc, append-nil}
 use mathlib.Core.Option.{none, some}
 use native.Mathlib.Omega.{arith}
 use lib.Dec.{leb, eqb}
-use borrow.Author.Tests.{le-leb, leb-true, eqb-true}
-use lib.ListN.{length, length-append}
-use Rattle.model.specs.Bytes.{Bytes, cmp, by}
+use borrow.Author.Tests.{le-leb, leb-true, lt-ltb, eqb-true}
+use lib.ListN.{length, drop, length-append}
+use lib.Seq.{take-append_seam, take_at, drop_at}
+use Rattle.model.specs.Bytes.{Bytes, cmp, by, has}
 use Rattle.model.specs.Map.{find, put}
-use Rattle.model.specs.Raw.{mode_of, raw_tree, read_tree}
-use Rattle.model.specs.Tree.{Mode, is_tree, Entry, Tree, as_kind, key, entry_of, good_name, good_entries, name_bytes, well_formed}
+use Rattle.model.specs.Raw.{octal, mode_of, raw_entry, raw_tree, read_tree}
+use Rattle.model.specs.Tree.{Mode, TREE, BLOB, EXEC, LINK, COMMIT, is_tree, Entry, Tree, as_kind, key, entry_of, good_name, good_entries, name_bytes, well_formed}
 use Rattle.model.proofs.Basics.{some_none, and_left, and_right}
 use Rattle.model.proofs.MapLaws.{cmp_lt, find_here}
 use Rattle.model.proofs.RawLaws.{read_only, well_entries}
@@ -19,13 +20,56 @@ use Rattle.model.proofs.SoundTrees.{Sound, sound_well, name_plain}
 use Rattle.names.specs.Check.{is_less}
 use Rattle.names.specs.Splice.{splice}
 use Rattle.names.proofs.ModeLaws.{text_read}
+use Rattle.names.proofs.StandingLaws.{no_nul, good_plain}
 use Rattle.names_salvage.specs.Answers.{mended_of}
 use Rattle.names_salvage.specs.Mending.{Mended, nothing, sorted, above, mend1, mend_all, fits, within, Answer, refusal, told, mended}
-use Rattle.names_salvage.specs.Pieces.{Piece, Pieces, pieces_of}
+use Rattle.names_salvage.specs.Pieces.{Piece, Pieces, piece_of, pieces_of}
 use Rattle.names_salvage.proofs.KeepLaws.{sorted_with, below_all}
-use Rattle.names_salvage.proofs.MendedTree.{Untouched, only_well, put_last}
+use Rattle.names_salvage.proofs.MendedTree.{Untouched, only_well, entry_piece, put_last}
 use Rattle.names_salvage.proofs.PassLaws.{pieces_some, pieces_none, piece_nil, mend_cons, mend_nil}
-use Rattle.names_salvage.proofs.EntryLaws.{piece_for, entry_read_lem}
+use Rattle.names_salvage.proofs.PutLaws.{index_past}
+
+-- no mode's text has a space
+no_space : (k : Mode) → has 32 (octal k) ≡ false
+unfolding octal
+no_space TREE = refl
+no_space BLOB = refl
+no_space EXEC = refl
+no_space LINK = refl
+no_space COMMIT = refl
+
+-- The raw form of an entry is read as the entry.
+past : (a : Bytes) (b : ℕ) (r : Bytes) → drop (suc (length a)) (a ++ (b ∷ r)) ≡ r
+past [] b r = refl
+past (x ∷ a) b r = past a b r
+
+abbrev piece_for : Entry → Bytes → Piece
+piece_for e rest = record { mode = octal e.mode; name = e.name; id = e.id; rest = rest }
+
+parts_read : (w : ℕ) (o n i rest : Bytes) → has 32 o ≡ false → has 0 n ≡ false → length i ≡ w →
+    piece_of w (o ++ (32 ∷ (n ++ (0 ∷ (i ++ rest))))) ≡ some (record { mode = o; name = n; id = i; rest = rest })
+unfolding piece_of
+parts_read w o n i rest ho hn hi =
+    let u = i ++ rest in
+    let t = n ++ (0 ∷ u) in
+    rw (
+      index_past 32 o t ho,
+      past o 32 t,
+      index_past 0 n u hn,
+      past n 0 u,
+      lt-ltb (length o) (length (o ++ (32 ∷ t))) (omega (arith, length-append o (32 ∷ t))),
+      lt-ltb (length n) (length t) (omega (arith, length-append n (0 ∷ u))),
+      le-leb w (length u) (omega (arith, length-append i rest, hi)),
+      take-append_seam o (32 ∷ t),
+      take-append_seam n (0 ∷ u),
+      take_at i rest w hi,
+      drop_at i rest w hi,
+    )
+
+entry_read_lem : (w : ℕ) (e : Entry) (rest : Bytes) → good_name e.name ≡ true → length e.id ≡ w → piece_of w (raw_entry e ++ rest) ≡ some (piece_for e rest)
+entry_read_lem w e rest g l =
+    ap (piece_of w) (ap (λ (s : Bytes). s ++ rest) (entry_piece e) ∙ append_assoc (octal e.mode) (32 ∷ e.name ++ (0 ∷ e.id)) rest ∙ ap (λ (s : Bytes). octal e.mode ++ (32 ∷ s)) (append_assoc e.name (0 ∷ e.id) rest))
+    ∙ parts_read w (octal e.mode) e.name e.id rest (no_space e.mode) (no_nul e.name (good_plain e.name g)) l
 
 -- An entry of a well-formed tree is not among those before it.
 find_front : (k : Bytes) (s t : Tree) → find key k (s ++ t) ≡ none → find key k s ≡ none

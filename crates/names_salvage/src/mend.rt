@@ -7,6 +7,9 @@ ghost use Rattle.names_salvage.specs.Answers.{Stands, Lists, answer, outcome};
 ghost use Rattle.names_salvage.specs.Mending.{salvaged, takes};
 
 use crate::table::{Slot, Table};
+use names::part::{after, between};
+use names::path::position;
+use names::write::put;
 
 // The answer: a number, the length of the tree that was written or is needed, and what was changed.
 #[repr(C)]
@@ -56,11 +59,13 @@ fn put_piece(raw: &[u8], width: usize, slot: Slot, out: &mut [u8], to: usize) ->
     ensures { (e : Entry) → Stands raw.now slot.word e → length e.id ≡ width
         → (result ≡ to + length (raw_entry e)) × (out.new ≡ splice out.old to (raw_entry e)) }
 {
-    let at = slot.name_at() - 1 - slot.mode_len();
-    let Some(piece) = crate::piece::read_piece(raw, at, width) else {
+    let name_at = slot.name_at();
+    let mode_len = slot.mode_len();
+    let Some(name_len) = position(after(raw, name_at), 0) else {
         unreachable!()
     };
-    names::write::put(out, to, names::part::between(raw, at, piece.next - at))
+    let len = mode_len + 1 + name_len + 1 + width;
+    put(out, to, between(raw, name_at - 1 - mode_len, len))
 }
 
 // Writes the entries of the table, one after the other.
