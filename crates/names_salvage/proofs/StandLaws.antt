@@ -210,9 +210,6 @@ module _ {raw : Bytes} {v : ℕ} {e : Entry} (st : Stands raw v e) where
   name_within =
       omega (arith, sym (length-drop (v / 8) raw) ∙ ap length name_there, length-append e.name (0 ∷ (e.id ++ st.rest)))
 
-  pub text_before : v % 8 + 1 ≤ v / 8
-  text_before = omega (arith, st.start)
-
   name_plain : plain e.name ≡ true
   name_plain = good_plain e.name st.good
 
