@@ -2,7 +2,6 @@
 // says so. A read or a write that fails ends it with status 1 and the error on standard error; where it was a read, nothing is on standard output.
 #![tactic(auto)]
 
-use lines::text::Put;
 use std::env::Env;
 use std::io;
 
@@ -23,7 +22,7 @@ fn main(rt: HostRuntime) -> io::Result<()> {
     }
     let mut out = [0u8; 131072];
     match names_salvage::report::report(&input[..n], width(&rt), &mut out) {
-        Put::At(m) => rt.write_all(names::part::front(&out, m)),
-        Put::Refused => Ok(()),
+        Some(m) => rt.write_all(names::part::front(&out, m)),
+        None => Ok(()),
     }
 }

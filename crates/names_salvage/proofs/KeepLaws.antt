@@ -1,13 +1,13 @@
 -- Laws of an entry that is kept: it goes into the tree where its number goes into the table, the counts grow by it, and the order is changed unless it goes to the end. Assumes nothing.
-use Prim.Native.Nat.{ℕ, zero, suc, ◌+◌, ◌-◌, ◌*◌, ◌≤◌, ◌<◌, Ordering}
+use Prim.Native.Nat.{ℕ, zero, suc, ◌+◌, ◌-◌, ◌≤◌, Ordering}
 use mathlib.Core.Path.{◌≡◌, refl, sym, ap, ap₂, ◌∙◌, subst}
-use mathlib.Core.Bool.{Bool, true, false, cond, not, ◌&&◌, true≢false}
+use mathlib.Core.Bool.{Bool, true, false, cond, ◌&&◌}
 use mathlib.Core.List.{List, [], ◌∷◌, ◌++◌}
 use native.Mathlib.Omega.{arith}
-use lib.Dec.{leb, ltb, eqb}
-use borrow.Author.Tests.{eq-eqb, ne_eqb, le-leb, lt-leb, leb-true, ltb-true, ltb-false}
+use lib.Dec.{leb, eqb}
+use Rattle.std.specs.Prelude.{Option, Some, Result, Ok, Err}
+use borrow.Author.Tests.{eq-eqb, ne_eqb, leb-true}
 use lib.ListN.{length, take, drop, length-append, length-drop, take-append-drop}
-use lib.Seq.{length-take-le}
 use Rattle.model.specs.Bytes.{Bytes, cmp, by}
 use Rattle.model.specs.Map.{put, rising, rising_from, is_some}
 use Rattle.model.specs.Raw.{raw_entry, raw_tree}
@@ -16,10 +16,12 @@ use Rattle.model.proofs.Basics.{and_left, and_right}
 use Rattle.model.proofs.MapLaws.{cmp_lt, cmp_trans, above_head, above_tail, rising_put}
 use Rattle.model.proofs.SearchLaws.{rising_high}
 use Rattle.names.specs.Check.{is_less}
-use Rattle.names_salvage.specs.Answers.{Lists, PlaceIs, Enters, Holds, TurnedTo, Turned}
+use Rattle.names_salvage.specs.Answers.{Stands, empty, Lists, Away, PlaceIn, PlaceIs, word_of, Enters, Holds, Turned}
 use Rattle.names_salvage.specs.Mending.{Mended, sorted, above, keep, fits, within}
 use Rattle.names_salvage.specs.declared.pass.Tally.{Tally}
-use Rattle.names_salvage.proofs.TableLaws.{lists_with}
+use Rattle.names_salvage.specs.declared.piece.RawPiece.{RawPiece}
+use Rattle.names_salvage.specs.declared.table.Slot.{Slot}
+use Rattle.names_salvage.proofs.TableLaws.{with_length, lists_with}
 
 pub rising_sorted : (k : Tree) → rising key (sorted k) ≡ true
 unfolding sorted
@@ -88,27 +90,15 @@ good_put w e (x ∷ xs) g l h =
     go Ordering.eq ih = one e xs this (and_right (good_name x.name && eqb (length x.id) w) (good_entries w xs) h)
     go Ordering.gt ih = one x (put key e xs) (and_left (good_name x.name && eqb (length x.id) w) (good_entries w xs) h) ih
 
--- each limit has its test
-pub many_pass : (n b : ℕ) → 1024 < n → false ≡ fits n b
-many_pass n b h = sym (rw (lt-leb n 1024 h))
+-- entries that do not pass a limit
+pub fits_kept : (n b : ℕ) → true ≡ fits n b → n ≤ 1024
+fits_kept n b q = leb-true n 1024 (and_left (leb n 1024) (leb b 16384) (sym q))
 
-pub bytes_pass : (n b : ℕ) → n ≤ 1024 → not (ltb 16384 b) ≡ fits n b
-bytes_pass n b h = rw (le-leb n 1024 h) (go (ltb 16384 b) refl)
-  where
-    go : (t : Bool) → ltb 16384 b ≡ t → not t ≡ leb b 16384
-    go true e = sym (lt-leb b 16384 (ltb-true 16384 b e))
-    go false e = sym (le-leb b 16384 (ltb-false 16384 b e))
+pub turned : {raw : Bytes} {w : ℕ} {vs : List Slot} {t : Tally} {m : Mended} {next : ℕ} → Holds raw w vs t m → t.at ≡ next → Turned raw w vs (Some t) m next
+turned h q = record { is = (h, q) }
 
-pub fits_kept : (n b : ℕ) (r : Bool) → not r ≡ fits n b → r ≡ false → n ≤ 1024
-fits_kept n b r q y = leb-true n 1024 (and_left (leb n 1024) (leb b 16384) (sym q ∙ ap not y))
-
--- a tally that passes no limit
-pub turned : {raw : Bytes} {w : ℕ} {table : List ℕ} {m : Mended} {next : ℕ} (r : Tally) → r.over ≡ false → Holds raw w table r m → r.at ≡ next → Turned raw w table r m next
-turned {raw} {w} {table} {m} {next} r e h q = record { is = go r.over e }
-  where
-    go : (b : Bool) → b ≡ false → TurnedTo b raw w table r m next
-    go true z = absurd (true≢false z)
-    go false z = (h, q)
+pub turned_as : {raw : Bytes} {w : ℕ} {vs : List Slot} {r : Option Tally} {m m' : Mended} {next : ℕ} → m ≡ m' → Turned raw w vs r m next → Turned raw w vs r m' next
+turned_as {raw} {w} {vs} {r} {m} {m'} {next} e t = subst (λ (z : Mended). Turned raw w vs r z next) e t
 
 -- how what is kept already stands to an entry
 keep_as_lem : (e : Entry) (m : Mended) (b : Bool) → is_some (entry_of e.name (sorted m.kept)) ≡ b →
@@ -117,88 +107,95 @@ keep_as_lem : (e : Entry) (m : Mended) (b : Bool) → is_some (entry_of e.name (
     (record { kept = e ∷ m.kept; bad_name = m.bad_name; bad_mode = m.bad_mode; double = m.double; moved = cond (above (key e) (sorted m.kept)) m.moved 1 })
 keep_as_lem e m b q = rw q
 
-module _ {raw : Bytes} {w : ℕ} {table : List ℕ} {t : Tally} {m : Mended} {name_at next : ℕ} {name : Bytes} {tree : Bool} {e : Entry}
-    (h : Holds raw w table t m) (n : Enters raw w t.at name_at next name tree e) where
+module _ {raw : Bytes} {w : ℕ} {vs : List Slot} {t : Tally} {m : Mended} {p : RawPiece} {tree : Bool} {e : Entry}
+    (h : Holds raw w vs t m) (n : Enters raw w t.at p tree e) {r : Result ℕ ℕ} (place : PlaceIs (sorted m.kept) p.name.now tree r) where
+  abbrev name : Bytes
+  name = p.name.now
+
   entry_key : key e ≡ as_kind tree name
   entry_key = ap₂ (λ (b : Bool) (x : Bytes). as_kind b x) n.kind n.named
 
-  there : {f : Bool} {i : ℕ} → PlaceIs (sorted m.kept) name tree f i → is_some (entry_of e.name (sorted m.kept)) ≡ f
-  there p = ap (λ (x : Bytes). is_some (entry_of x (sorted m.kept))) n.named ∙ p.is
+  -- the name is kept already
+  module _ {i : ℕ} (z : r ≡ Ok i) where
+    there : is_some (entry_of e.name (sorted m.kept)) ≡ true
+    there = ap (λ (x : Bytes). is_some (entry_of x (sorted m.kept))) n.named ∙ subst (PlaceIn (sorted m.kept) name tree) z place.is
 
-  pub tree_length : length (sorted m.kept) ≡ t.kept
-  tree_length = sym h.lists.many ∙ length-take-le t.kept table (omega (arith, h.room, h.few))
+    pub kept_double : Turned raw w vs (Some (record { at = p.next; names = t.names; len = t.len; badname = t.badname; badmode = t.badmode; double = t.double + 1; moved = t.moved })) (keep e m) p.next
+    kept_double =
+        turned_as (sym (keep_as_lem e m true there))
+        (turned
+        (record {
+          lists = h.lists;
+          good = h.good;
+          kept = h.kept;
+          names = h.names;
+          len = h.len;
+          bad_name = h.bad_name;
+          bad_mode = h.bad_mode;
+          double = omega (arith, h.double);
+          moved = h.moved;
+          few = h.few;
+          short = h.short;
+          counted = omega (arith, h.counted, n.start, n.end, n.longer);
+          written = omega (arith, h.written, n.start, n.end);
+          inside = n.within;
+        })
+        refl)
 
-  pub place_in : {f : Bool} {i : ℕ} → PlaceIs (sorted m.kept) name tree f i → f ≡ false → i ≤ t.kept
-  place_in p z = omega (arith, p.within z, tree_length)
+  -- it is not, and an entry of it goes in at i
+  module _ {i : ℕ} (z : r ≡ Err i) where
+    away : Away (sorted m.kept) name tree i
+    away = subst (PlaceIn (sorted m.kept) name tree) z place.is
 
-  pub kept_double : {f : Bool} {i : ℕ} → PlaceIs (sorted m.kept) name tree f i → f ≡ true →
-      Holds raw w table (record { at = next; kept = t.kept; names = t.names; len = t.len; badname = t.badname; badmode = t.badmode; double = t.double + 1; moved = t.moved; over = t.over }) (keep e m)
-  kept_double {f} {i} p z =
-      subst
-      (λ (x : Mended). Holds raw w table (record { at = next; kept = t.kept; names = t.names; len = t.len; badname = t.badname; badmode = t.badmode; double = t.double + 1; moved = t.moved; over = t.over }) x)
-      (sym (keep_as_lem e m true (there p ∙ z)))
-      (record {
-        lists = h.lists;
-        good = h.good;
-        room = h.room;
-        kept = h.kept;
-        names = h.names;
-        len = h.len;
-        bad_name = h.bad_name;
-        bad_mode = h.bad_mode;
-        double = omega (arith, h.double);
-        moved = h.moved;
-        few = h.few;
-        short = h.short;
-        counted = omega (arith, h.counted, n.end, n.longer);
-        written = omega (arith, h.written, n.end);
-        inside = n.within;
-      })
+    is_new : is_some (entry_of e.name (sorted m.kept)) ≡ false
+    is_new = ap (λ (x : Bytes). is_some (entry_of x (sorted m.kept))) n.named ∙ away.is
 
-  -- what passes a limit with this entry passes it in the end
-  pub kept_over : {f : Bool} {i : ℕ} → PlaceIs (sorted m.kept) name tree f i → f ≡ false → (b : Bool) → not b ≡ fits (t.kept + 1) (t.names + length name) → b ≡ true → within (keep e m).kept ≡ false
-  kept_over p z b q y =
-      let k : t.kept + 1 ≡ suc (length m.kept) = omega (arith, h.kept) in
-      let l : t.names + length name ≡ length e.name + name_bytes m.kept = omega (arith, h.names, ap length n.named) in
-      ap (λ (x : Mended). within x.kept) (keep_as_lem e m false (there p ∙ z)) ∙ ap₂ fits (sym k) (sym l) ∙ sym q ∙ ap not y
+    pub place_in : i ≤ length vs
+    place_in = omega (arith, away.within, h.lists.many)
 
-  pub kept_more : {f : Bool} {i : ℕ} → PlaceIs (sorted m.kept) name tree f i → f ≡ false → (b : Bool) → not b ≡ fits (t.kept + 1) (t.names + length name) → b ≡ false →
-      (table' : List ℕ) → length table' ≡ length table → take (t.kept + 1) table' ≡ take i (take t.kept table) ++ ((name_at * 8 + (name_at - 1 - t.at)) ∷ drop i (take t.kept table)) →
-      (v : ℕ) → v ≡ cond (eqb i t.kept) t.moved 1 →
-      Holds raw w table' (record { at = next; kept = t.kept + 1; names = t.names + length name; len = t.len + (next - t.at); badname = t.badname; badmode = t.badmode; double = t.double; moved = v; over = t.over }) (keep e m)
-  kept_more {f} {i} p z b q y table' lt tk v ev =
-      subst
-      (λ (x : Mended). Holds raw w table' (record { at = next; kept = t.kept + 1; names = t.names + length name; len = t.len + (next - t.at); badname = t.badname; badmode = t.badmode; double = t.double; moved = v; over = t.over }) x)
-      (sym (keep_as_lem e m false (there p ∙ z)))
-      (record {
-        lists = subst (λ (vs : List ℕ). Lists raw vs (sorted (e ∷ m.kept))) (sym tk) (subst (Lists raw (take i (take t.kept table) ++ ((name_at * 8 + (name_at - 1 - t.at)) ∷ drop i (take t.kept table)))) (sym more) (lists_with h.lists i (name_at * 8 + (name_at - 1 - t.at)) e (p.within z) n.stands));
-        good = ap (good_entries w) again ∙ good_put w e (sorted m.kept) n.stands.good n.wide h.good;
-        room = lt ∙ h.room;
-        kept = omega (arith, h.kept);
-        names = omega (arith, h.names, ap length n.named);
-        len = sym (ap (λ (x : Tree). length (raw_tree x)) more ∙ raw_with e i (sorted m.kept) ∙ long);
-        bad_name = h.bad_name;
-        bad_mode = h.bad_mode;
-        double = h.double;
-        moved = ev ∙ ap₂ (λ (x : Bool) (k : ℕ). cond x k 1) (sym (above_is e (sorted m.kept) i t.kept (rising_sorted m.kept) goes tree_length (omega (arith, p.within z, tree_length)))) h.moved;
-        few = leb-true (t.kept + 1) 1024 (and_left (leb (t.kept + 1) 1024) (leb (t.names + length name) 16384) fit);
-        short = leb-true (t.names + length name) 16384 (and_right (leb (t.kept + 1) 1024) (leb (t.names + length name) 16384) fit);
-        counted = omega (arith, h.counted, n.end);
-        written = omega (arith, h.written, n.end);
-        inside = n.within;
-      })
-    where
-      goes : put key e (sorted m.kept) ≡ take i (sorted m.kept) ++ (e ∷ drop i (sorted m.kept))
-      goes = p.goes z e entry_key
+    -- what passes a limit with this entry passes it in the end
+    pub kept_over : false ≡ fits (length vs + 1) (t.names + length name) → within (keep e m).kept ≡ false
+    kept_over q =
+        let k : length vs + 1 ≡ suc (length m.kept) = omega (arith, h.kept) in
+        let l : t.names + length name ≡ length e.name + name_bytes m.kept = omega (arith, h.names, ap length n.named) in
+        ap (λ (x : Mended). within x.kept) (keep_as_lem e m false is_new) ∙ ap₂ fits (sym k) (sym l) ∙ sym q
 
-      again : sorted (e ∷ m.kept) ≡ put key e (sorted m.kept)
-      again = sorted_with e m.kept
+    pub kept_more : true ≡ fits (length vs + 1) (t.names + length name) → (vs' : List Slot) (s : Slot) → s.word ≡ word_of p → vs' ≡ take i vs ++ (s ∷ drop i vs) →
+        (v : ℕ) → v ≡ cond (eqb i (length vs)) t.moved 1 →
+        Turned raw w vs' (Some (record { at = p.next; names = t.names + length name; len = t.len + (p.next - t.at); badname = t.badname; badmode = t.badmode; double = t.double; moved = v })) (keep e m) p.next
+    kept_more q vs' s es tk v ev =
+        turned_as (sym (keep_as_lem e m false is_new))
+        (turned
+        (record {
+          lists = subst (λ (l : List Slot). Lists raw l (sorted (e ∷ m.kept))) (sym tk)
+              (subst (Lists raw (take i vs ++ (s ∷ drop i vs))) (sym more) (lists_with h.lists i s e away.within (subst (λ (k : ℕ). Stands raw k e) (sym es) n.stands)));
+          good = ap (good_entries w) again ∙ good_put w e (sorted m.kept) n.stands.good n.wide h.good;
+          kept = size ∙ ap suc h.kept;
+          names = omega (arith, h.names, ap length n.named);
+          len = sym (ap (λ (x : Tree). length (raw_tree x)) more ∙ raw_with e i (sorted m.kept) ∙ long);
+          bad_name = h.bad_name;
+          bad_mode = h.bad_mode;
+          double = h.double;
+          moved = ev ∙ ap₂ (λ (x : Bool) (k : ℕ). cond x k 1) (sym (above_is e (sorted m.kept) i (length vs) (rising_sorted m.kept) goes (sym h.lists.many) place_in)) h.moved;
+          few = omega (arith, size, leb-true (length vs + 1) 1024 (and_left (leb (length vs + 1) 1024) (leb (t.names + length name) 16384) (sym q)));
+          short = leb-true (t.names + length name) 16384 (and_right (leb (length vs + 1) 1024) (leb (t.names + length name) 16384) (sym q));
+          counted = omega (arith, h.counted, n.start, n.end);
+          written = omega (arith, h.written, n.start, n.end);
+          inside = n.within;
+        })
+        refl)
+      where
+        size : length vs' ≡ suc (length vs)
+        size = ap length tk ∙ with_length vs i s place_in empty
 
-      more : sorted (e ∷ m.kept) ≡ take i (sorted m.kept) ++ (e ∷ drop i (sorted m.kept))
-      more = again ∙ goes
+        goes : put key e (sorted m.kept) ≡ take i (sorted m.kept) ++ (e ∷ drop i (sorted m.kept))
+        goes = away.goes e entry_key
 
-      long : length (raw_tree (sorted m.kept)) + length (raw_entry e) ≡ t.len + (next - t.at)
-      long = omega (arith, h.len, n.end)
+        again : sorted (e ∷ m.kept) ≡ put key e (sorted m.kept)
+        again = sorted_with e m.kept
 
-      fit : fits (t.kept + 1) (t.names + length name) ≡ true
-      fit = sym q ∙ ap not y
+        more : sorted (e ∷ m.kept) ≡ take i (sorted m.kept) ++ (e ∷ drop i (sorted m.kept))
+        more = again ∙ goes
+
+        long : length (raw_tree (sorted m.kept)) + length (raw_entry e) ≡ t.len + (p.next - t.at)
+        long = omega (arith, h.len, n.start, n.end)

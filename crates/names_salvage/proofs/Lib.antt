@@ -7,6 +7,7 @@ pub mod PieceLaws
 pub mod PlaceLaws
 pub mod PutLaws
 pub mod ReportLaws
+pub mod SeekLaws
 pub mod StandLaws
 pub mod TableLaws
 pub mod Theorems

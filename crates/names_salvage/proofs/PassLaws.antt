@@ -1,9 +1,11 @@
 -- Laws of the pass: what was read is the entries' bytes, so that what is left gives the answer of the whole; and entries kept stay kept, so that a limit once passed is passed in the end. Assumes nothing.
-use Prim.Native.Nat.{ℕ, zero, suc, ◌+◌, ◌-◌, ◌≤◌, ◌<◌}
+use Prim.Native.Nat.{ℕ, zero, suc, ◌+◌, ◌≤◌, ◌<◌}
 use mathlib.Core.Path.{◌≡◌, refl, sym, ap, ◌∙◌, subst}
 use mathlib.Core.Bool.{Bool, true, false, cond, ◌&&◌, true≢false}
 use mathlib.Core.List.{List, [], ◌∷◌, ◌++◌, append_assoc}
-use mathlib.Core.Option.{Option, none, some}
+use mathlib.Core.Option as maybe
+use mathlib.Core.Option.{none, some}
+use Rattle.std.specs.Prelude.{Option, Some, None}
 use native.Mathlib.Omega.{arith}
 use lib.Dec.{leb, ltb, eqb}
 use borrow.Author.Tests.{le-leb, leb-true, ltb-true, eqb-true}
@@ -18,12 +20,13 @@ use Rattle.model.proofs.RawLaws.{mode_of_lem}
 use Rattle.model.proofs.ValidLaws.{octal_length}
 use Rattle.names.specs.Places.{index_of}
 use Rattle.names.proofs.WriteLaws.{entry_long}
-use Rattle.names_salvage.specs.Answers.{StandsAt, piece_at, ReadIn, ReadAs, Enters, Holds, TurnedTo, Turned, mended_of, PassedTo, Passed}
+use Rattle.names_salvage.specs.Answers.{StandsAt, piece_at, ReadIn, ReadAs, Enters, Holds, Turned, mended_of, Passed}
 use Rattle.names_salvage.specs.Mending.{Mended, nothing, sorted, above, keep_as, mend1, mend_all, within}
 use Rattle.names_salvage.specs.Pieces.{Piece, Pieces, piece_of, read_on, pieces_in, pieces_of}
 use Rattle.names_salvage.specs.declared.pass.Tally.{Tally}
-use Rattle.names_salvage.specs.declared.piece.Read.{Read}
-use Rattle.names_salvage.specs.declared.piece.Read.TheVariants.{Whole, Cut}
+use Rattle.names_salvage.specs.declared.piece.RawPiece.{RawPiece}
+use Rattle.names_salvage.specs.declared.table.Slot.{Slot}
+use Rattle.names_salvage.proofs.KeepLaws.{turned, turned_as}
 
 -- the byte that is searched for stands where it is found
 pub index_split : (b : ℕ) (s : Bytes) → index_of b s < length s → s ≡ take (index_of b s) s ++ (b ∷ drop (suc (index_of b s)) s)
@@ -97,7 +100,7 @@ enough zero m w s h g = rw (no_bytes s h) (sym (pieces_nil m w))
 enough (suc n) zero w s h g = rw (no_bytes s g) (pieces_nil (suc n) w)
 enough (suc n) (suc m) w s h g = go (piece_of w s) refl (λ r a b. enough n m w r a b)
   where
-    go : (o : Option Piece) → piece_of w s ≡ o → ((r : Bytes) → length r ≤ n → length r ≤ m → pieces_in n w r ≡ pieces_in m w r) → read_on (pieces_in n w) s o ≡ read_on (pieces_in m w) s o
+    go : (o : maybe.Option Piece) → piece_of w s ≡ o → ((r : Bytes) → length r ≤ n → length r ≤ m → pieces_in n w r ≡ pieces_in m w r) → read_on (pieces_in n w) s o ≡ read_on (pieces_in m w) s o
     go none e ih = refl
     go (some x) e ih = let l = rest_shorter w s x e in ap (λ (r : Pieces). record { read = x ∷ r.read; left = r.left }) (ih x.rest (omega arith) (omega arith))
 
@@ -113,10 +116,19 @@ pieces_some w (b ∷ s) x e =
     let l = rest_shorter w (b ∷ s) x e in
     ap (read_on (pieces_in (length s) w) (b ∷ s)) e ∙ ap (λ (r : Pieces). record { read = x ∷ r.read; left = r.left }) (enough (length s) (length x.rest) w x.rest (omega arith) (omega arith))
 
+-- what is made of an entry, by its name and its mode
+pub mend_bad_name : (x : Piece) (m : Mended) → good_name x.name ≡ false → mend1 x m ≡ record { kept = m.kept; bad_name = suc m.bad_name; bad_mode = m.bad_mode; double = m.double; moved = m.moved }
+unfolding mend1
+mend_bad_name x m e = rw e
+
+pub mend_as : (x : Piece) (m : Mended) (o : maybe.Option Mode) → good_name x.name ≡ true → mode_of x.mode ≡ o → mend1 x m ≡ keep_as o x m
+unfolding mend1
+mend_as x m o e f = rw (e, f)
+
 -- An entry with a good name and a mode, where it was read.
-module _ {raw : Bytes} {w at m name n next : ℕ} (st : StandsAt raw w at m name n next) where
+module _ {raw : Bytes} {w at : ℕ} {p : RawPiece} (st : StandsAt raw w at p) where
   abbrev x : Piece
-  x = piece_at raw w at m name n next
+  x = piece_at raw w p
 
   split : Split w (drop at raw) x
   split = piece_split w (drop at raw) x st.is
@@ -124,97 +136,83 @@ module _ {raw : Bytes} {w at m name n next : ℕ} (st : StandsAt raw w at m name
   abbrev entry : Mode → Entry
   entry k = record { mode = k; name = x.name; id = x.id }
 
-  text_long : length x.mode ≡ m
-  text_long = length-take-le m (drop at raw) (omega (arith, st.start, st.end, st.within, length-drop at raw))
-
-  name_long : length x.name ≡ n
-  name_long = length-take-le n (drop name raw) (omega (arith, st.start, st.end, st.within, length-drop name raw))
-
-  pub enters : (k : Mode) → mode_of x.mode ≡ some k → good_name x.name ≡ true → {y : Bytes} → y ≡ x.name → {b : Bool} → b ≡ is_tree k → Enters raw w at name next y b (entry k)
+  pub enters : (k : Mode) → mode_of x.mode ≡ some k → good_name x.name ≡ true → {b : Bool} → b ≡ is_tree k → Enters raw w at p b (entry k)
   unfolding raw_entry
-  enters k e g {y} ey {b} eb =
+  enters k e g {b} eb =
       record {
-        named = sym ey;
+        start = st.start;
+        named = refl;
         kind = sym eb;
         wide = split.wide;
-        start = omega (arith, st.start);
-        near = omega (arith, st.start, long, octal_length k);
-        end = omega (arith, st.start, st.end, long, name_long, split.wide, entry_long (entry k));
+        near = omega (arith, long, octal_length k);
+        end = omega (arith, st.start, st.end, long, split.wide, entry_long (entry k));
         longer = omega (arith, entry_long (entry k));
         within = st.within;
         stands =
             record {
               at = at;
-              rest = drop next raw;
+              rest = drop p.next raw;
               start = omega (arith, st.start, long, octal_length k);
               text = omega (arith, st.start, long, octal_length k);
-              bytes = split.bytes ∙ ap (λ (l : Bytes). l ++ (32 ∷ (x.name ++ (0 ∷ (x.id ++ drop next raw))))) (mode_of_lem x.mode k e)
-                  ∙ sym (append_assoc (octal k) (32 ∷ x.name ++ (0 ∷ x.id)) (drop next raw) ∙ ap (λ (l : Bytes). octal k ++ (32 ∷ l)) (append_assoc x.name (0 ∷ x.id) (drop next raw)));
+              bytes = split.bytes ∙ ap (λ (l : Bytes). l ++ (32 ∷ (x.name ++ (0 ∷ (x.id ++ drop p.next raw))))) (mode_of_lem x.mode k e)
+                  ∙ sym (append_assoc (octal k) (32 ∷ x.name ++ (0 ∷ x.id)) (drop p.next raw) ∙ ap (λ (l : Bytes). octal k ++ (32 ∷ l)) (append_assoc x.name (0 ∷ x.id) (drop p.next raw)));
               good = g;
             };
       }
     where
-      long : m ≡ length (octal k)
-      long = sym text_long ∙ ap length (mode_of_lem x.mode k e)
+      long : length p.mode.now ≡ length (octal k)
+      long = ap length (mode_of_lem x.mode k e)
 
-  pub goes_on_lem : at < next
+  pub goes_on_lem : at < p.next
   goes_on_lem = omega (arith, st.start, st.end)
 
--- what is made of an entry, by its name and its mode
-pub mend_bad_name : (x : Piece) (m : Mended) → good_name x.name ≡ false → mend1 x m ≡ record { kept = m.kept; bad_name = suc m.bad_name; bad_mode = m.bad_mode; double = m.double; moved = m.moved }
-unfolding mend1
-mend_bad_name x m e = rw e
+  -- what is made of an entry, by its name and its mode
+  module _ {vs : List Slot} {t : Tally} {m : Mended} (h : Holds raw w vs t m) (here : t.at ≡ at) where
+    pub turned_bad_name : good_name x.name ≡ false →
+        Turned raw w vs (Some (record { at = p.next; names = t.names; len = t.len; badname = t.badname + 1; badmode = t.badmode; double = t.double; moved = t.moved })) (mend1 x m) p.next
+    turned_bad_name g =
+        turned_as (sym (mend_bad_name x m g))
+        (turned
+        (record {
+          lists = h.lists;
+          good = h.good;
+          kept = h.kept;
+          names = h.names;
+          len = h.len;
+          bad_name = omega (arith, h.bad_name);
+          bad_mode = h.bad_mode;
+          double = h.double;
+          moved = h.moved;
+          few = h.few;
+          short = h.short;
+          counted = omega (arith, h.counted, goes_on_lem);
+          written = omega (arith, h.written, goes_on_lem);
+          inside = st.within;
+        })
+        refl)
 
-pub mend_as : (x : Piece) (m : Mended) (o : Option Mode) → good_name x.name ≡ true → mode_of x.mode ≡ o → mend1 x m ≡ keep_as o x m
-unfolding mend1
-mend_as x m o e f = rw (e, f)
-
-pub turned_as : {raw : Bytes} {w : ℕ} {table : List ℕ} {r : Tally} {m m' : Mended} {next : ℕ} → m ≡ m' → Turned raw w table r m next → Turned raw w table r m' next
-turned_as {raw} {w} {table} {r} {m} {m'} {next} e t = subst (λ (z : Mended). Turned raw w table r z next) e t
-
--- what is held after an entry that is dropped
-module _ {raw : Bytes} {w : ℕ} {table : List ℕ} {t : Tally} {m : Mended} {next : ℕ} (h : Holds raw w table t m) (g : t.at < next) (l : next ≤ length raw) where
-  pub held_bad_name : Holds raw w table (record { at = next; kept = t.kept; names = t.names; len = t.len; badname = t.badname + 1; badmode = t.badmode; double = t.double; moved = t.moved; over = t.over })
-      (record { kept = m.kept; bad_name = suc m.bad_name; bad_mode = m.bad_mode; double = m.double; moved = m.moved })
-  held_bad_name =
-      record {
-        lists = h.lists;
-        good = h.good;
-        room = h.room;
-        kept = h.kept;
-        names = h.names;
-        len = h.len;
-        bad_name = omega (arith, h.bad_name);
-        bad_mode = h.bad_mode;
-        double = h.double;
-        moved = h.moved;
-        few = h.few;
-        short = h.short;
-        counted = omega (arith, h.counted);
-        written = omega (arith, h.written);
-        inside = l;
-      }
-
-  pub held_bad_mode : Holds raw w table (record { at = next; kept = t.kept; names = t.names; len = t.len; badname = t.badname; badmode = t.badmode + 1; double = t.double; moved = t.moved; over = t.over })
-      (record { kept = m.kept; bad_name = m.bad_name; bad_mode = suc m.bad_mode; double = m.double; moved = m.moved })
-  held_bad_mode =
-      record {
-        lists = h.lists;
-        good = h.good;
-        room = h.room;
-        kept = h.kept;
-        names = h.names;
-        len = h.len;
-        bad_name = h.bad_name;
-        bad_mode = omega (arith, h.bad_mode);
-        double = h.double;
-        moved = h.moved;
-        few = h.few;
-        short = h.short;
-        counted = omega (arith, h.counted);
-        written = omega (arith, h.written);
-        inside = l;
-      }
+    pub turned_bad_mode : good_name x.name ≡ true → none ≡ mode_of x.mode →
+        Turned raw w vs (Some (record { at = p.next; names = t.names; len = t.len; badname = t.badname; badmode = t.badmode + 1; double = t.double; moved = t.moved })) (mend1 x m) p.next
+    turned_bad_mode g e =
+        turned_as (sym (mend_as x m none g (sym e)))
+        (turned
+        (record {
+          lists = h.lists;
+          good = h.good;
+          kept = h.kept;
+          names = h.names;
+          len = h.len;
+          bad_name = h.bad_name;
+          bad_mode = omega (arith, h.bad_mode);
+          double = h.double;
+          moved = h.moved;
+          few = h.few;
+          short = h.short;
+          counted = omega (arith, h.counted, goes_on_lem);
+          written = omega (arith, h.written, goes_on_lem);
+          inside = st.within;
+        })
+        refl)
 
 -- Entries kept stay kept.
 pub record Grows (s t : Tree) : Type 0 where
@@ -235,7 +233,7 @@ grows x m = go (good_name x.name) (mode_of x.mode)
     one e true = same
     one e false = record { more = omega arith; bytes = omega arith }
 
-    go : (b : Bool) (o : Option Mode) → Grows m.kept
+    go : (b : Bool) (o : maybe.Option Mode) → Grows m.kept
         (cond {A = Mended} b (keep_as o x m) (record { kept = m.kept; bad_name = suc m.bad_name; bad_mode = m.bad_mode; double = m.double; moved = m.moved })).kept
     go false o = same
     go true none = same
@@ -255,113 +253,79 @@ unfolding mend_all
 over_all [] m e = e
 over_all (x ∷ ps) m e = over_all ps (mend1 x m) (still_over m.kept (mend1 x m).kept (grows x m) e)
 
--- At a place of the pass: what is left gives the answer of the whole; or a limit is passed.
-pub record Knows (raw : Bytes) (w : ℕ) (table : List ℕ) (t : Tally) : Type 0 where
+-- At a place of the pass: what is left gives the answer of the whole.
+pub record Knows (raw : Bytes) (w : ℕ) (vs : List Slot) (t : Tally) : Type 0 where
   pub m : Mended
-  pub holds : Holds raw w table t m
+  pub holds : Holds raw w vs t m
   pub rest : mended_of w raw ≡ mend_all (pieces_of w (drop t.at raw)).read m
   pub left : (pieces_of w raw).left ≡ (pieces_of w (drop t.at raw)).left
 
-abbrev pub PassingTo : Bool → Bytes → ℕ → List ℕ → Tally → Type 0
-PassingTo true raw w table t = within (mended_of w raw).kept ≡ false
-PassingTo false raw w table t = Knows raw w table t
+abbrev Zero : Tally → Type 0
+Zero t = (t.at ≡ 0) × ((t.names ≡ 0) × ((t.len ≡ 0) × ((t.badname ≡ 0) × ((t.badmode ≡ 0) × ((t.double ≡ 0) × (t.moved ≡ 0))))))
 
-pub record Passing (raw : Bytes) (w : ℕ) (table : List ℕ) (t : Tally) : Type 0 where
-  pub is : PassingTo t.over raw w table t
-  pub room : length table ≡ 1024
-
-pub knows : {raw : Bytes} {w : ℕ} {table : List ℕ} {t : Tally} → Passing raw w table t → t.over ≡ false → Knows raw w table t
-knows {raw} {w} {table} {t} p e = subst (λ (b : Bool). PassingTo b raw w table t) e p.is
-
-pub pass_begin : (raw : Bytes) (w : ℕ) (table : List ℕ) → length table ≡ 1024 →
-    Passing raw w table (record { at = 0; kept = 0; names = 0; len = 0; badname = 0; badmode = 0; double = 0; moved = 0; over = false })
+pub pass_begin : (raw : Bytes) (w : ℕ) (vs : List Slot) → length vs ≡ 0 → (t : Tally) → Zero t → Knows raw w vs t
 unfolding sorted
-pass_begin raw w table h =
+pass_begin raw w vs h t z =
     record {
-      room = h;
-      is =
+      m = nothing;
+      holds =
           record {
-            m = nothing;
-            holds =
-                record {
-                  lists = record { many = refl; each = λ i g. absurd (omega arith) };
-                  good = refl;
-                  room = h;
-                  kept = refl;
-                  names = refl;
-                  len = refl;
-                  bad_name = refl;
-                  bad_mode = refl;
-                  double = refl;
-                  moved = refl;
-                  few = omega arith;
-                  short = omega arith;
-                  counted = omega arith;
-                  written = omega arith;
-                  inside = omega arith;
-                };
-            rest = refl;
-            left = refl;
+            lists = record { many = h; each = λ i g. absurd (omega arith) };
+            good = refl;
+            kept = h;
+            names = z.1.0;
+            len = z.1.1.0;
+            bad_name = z.1.1.1.0;
+            bad_mode = z.1.1.1.1.0;
+            double = z.1.1.1.1.1.0;
+            moved = z.1.1.1.1.1.1;
+            few = omega arith;
+            short = omega arith;
+            counted = omega arith;
+            written = omega arith;
+            inside = omega arith;
           };
+      rest = ap (λ (k : ℕ). mend_all (pieces_of w (drop k raw)).read nothing) (sym z.0);
+      left = ap (λ (k : ℕ). (pieces_of w (drop k raw)).left) (sym z.0);
     }
 
 pub mend_cons : (x : Piece) (ps : List Piece) (m : Mended) → mend_all (x ∷ ps) m ≡ mend_all ps (mend1 x m)
 unfolding mend_all
 mend_cons x ps m = refl
 
-pub pass_turn : {raw : Bytes} {w : ℕ} {table : List ℕ} {t : Tally} {a name n next : ℕ} → (k : Knows raw w table t) → StandsAt raw w t.at a name n next →
-    {table' : List ℕ} {r : Tally} → length table' ≡ 1024 → Turned raw w table' r (mend1 (piece_at raw w t.at a name n next) k.m) next → Passing raw w table' r
-pass_turn {raw} {w} {table} {t} {a} {name} {n} {next} k st {table'} {r} room u = record { is = go r.over u.is; room = room }
-  where
-    x : Piece
-    x = piece_at raw w t.at a name n next
+-- an entry more
+module _ {raw : Bytes} {w : ℕ} {vs : List Slot} {t : Tally} (k : Knows raw w vs t) {p : RawPiece} (st : StandsAt raw w t.at p) where
+  ps : pieces_of w (drop t.at raw) ≡ record { read = piece_at raw w p ∷ (pieces_of w (drop p.next raw)).read; left = (pieces_of w (drop p.next raw)).left }
+  ps = pieces_some w (drop t.at raw) (piece_at raw w p) st.is
 
-    ps : pieces_of w (drop t.at raw) ≡ record { read = x ∷ (pieces_of w (drop next raw)).read; left = (pieces_of w (drop next raw)).left }
-    ps = pieces_some w (drop t.at raw) x st.is
+  whole : mended_of w raw ≡ mend_all (pieces_of w (drop p.next raw)).read (mend1 (piece_at raw w p) k.m)
+  whole = k.rest ∙ ap (λ (q : Pieces). mend_all q.read k.m) ps ∙ mend_cons (piece_at raw w p) (pieces_of w (drop p.next raw)).read k.m
 
-    whole : mended_of w raw ≡ mend_all (pieces_of w (drop next raw)).read (mend1 x k.m)
-    whole = k.rest ∙ ap (λ (p : Pieces). mend_all p.read k.m) ps ∙ mend_cons x (pieces_of w (drop next raw)).read k.m
+  pub pass_more : {vs' : List Slot} {t' : Tally} → Turned raw w vs' (Some t') (mend1 (piece_at raw w p) k.m) p.next → Knows raw w vs' t'
+  pass_more u =
+      record {
+        m = mend1 (piece_at raw w p) k.m;
+        holds = u.is.0;
+        rest = whole ∙ ap (λ (j : ℕ). mend_all (pieces_of w (drop j raw)).read (mend1 (piece_at raw w p) k.m)) (sym u.is.1);
+        left = k.left ∙ ap (λ (q : Pieces). q.left) ps ∙ ap (λ (j : ℕ). (pieces_of w (drop j raw)).left) (sym u.is.1);
+      }
 
-    go : (b : Bool) → TurnedTo b raw w table' r (mend1 x k.m) next → PassingTo b raw w table' r
-    go true f = ap (λ (z : Mended). within z.kept) whole ∙ over_all (pieces_of w (drop next raw)).read (mend1 x k.m) f
-    go false (h, q) =
-        record {
-          m = mend1 x k.m;
-          holds = h;
-          rest = whole ∙ ap (λ (j : ℕ). mend_all (pieces_of w (drop j raw)).read (mend1 x k.m)) (sym q);
-          left = k.left ∙ ap (λ (p : Pieces). p.left) ps ∙ ap (λ (j : ℕ). (pieces_of w (drop j raw)).left) (sym q);
-        }
+  pub pass_over : {vs' : List Slot} → Turned raw w vs' None (mend1 (piece_at raw w p) k.m) p.next → Passed raw w vs' None
+  pass_over u = record { is = ap (λ (z : Mended). within z.kept) whole ∙ over_all (pieces_of w (drop p.next raw)).read (mend1 (piece_at raw w p) k.m) u.is }
 
 pub mend_nil : (m : Mended) → mend_all [] m ≡ m
 unfolding mend_all
 mend_nil m = refl
 
 -- what a read that found an entry says, and one that found none
-pub read_whole : {raw : Bytes} {at w : ℕ} {r : Read} → ReadAs raw at w r → {m name n next : ℕ} → r ≡ Whole m name n next → StandsAt raw w at m name n next
+pub read_whole : {raw : Bytes} {at w : ℕ} {r : Option RawPiece} → ReadAs raw at w r → {p : RawPiece} → r ≡ Some p → StandsAt raw w at p
 read_whole {raw} {at} {w} a e = subst (ReadIn raw at w) e a.is
 
-pub read_cut : {raw : Bytes} {at w : ℕ} {r : Read} → ReadAs raw at w r → r ≡ Cut → piece_of w (drop at raw) ≡ none
+pub read_cut : {raw : Bytes} {at w : ℕ} {r : Option RawPiece} → ReadAs raw at w r → r ≡ None → piece_of w (drop at raw) ≡ none
 read_cut {raw} {at} {w} a e = subst (ReadIn raw at w) e a.is
 
-pub pass_end : {raw : Bytes} {w : ℕ} {table : List ℕ} {t : Tally} → Passing raw w table t → t.over ≡ false → piece_of w (drop t.at raw) ≡ none → Passed raw w table t
-pass_end {raw} {w} {table} {t} p o e =
-    let k = knows p o in
+pub pass_end : {raw : Bytes} {w : ℕ} {vs : List Slot} {t : Tally} → Knows raw w vs t → piece_of w (drop t.at raw) ≡ none → Passed raw w vs (Some t)
+pass_end {raw} {w} {vs} {t} k e =
     let ps = pieces_none w (drop t.at raw) e in
     let all : mended_of w raw ≡ k.m = k.rest ∙ ap (λ (z : Pieces). mend_all z.read k.m) ps ∙ mend_nil k.m in
-    record { is = subst (λ (b : Bool). PassedTo b raw w table t) (sym o) (subst (Holds raw w table t) (sym all) k.holds, ap length (k.left ∙ ap (λ (z : Pieces). z.left) ps) ∙ length-drop t.at raw) }
-
-pub pass_over : {raw : Bytes} {w : ℕ} {table : List ℕ} {t : Tally} → Passing raw w table t → t.over ≡ true → Passed raw w table t
-pass_over {raw} {w} {table} {t} p o =
-    record { is = subst (λ (b : Bool). PassedTo b raw w table t) (sym o) (subst (λ (b : Bool). PassingTo b raw w table t) o p.is) }
-
--- what is left to be read falls
-unfoldable pub ahead : Tally → ℕ → ℕ
-ahead t n = cond t.over 0 (suc n - t.at)
-
-pub ahead_less : {raw : Bytes} {w : ℕ} {table : List ℕ} (t : Tally) {r : Tally} {m : Mended} {next : ℕ} → t.over ≡ false → t.at < next → next ≤ length raw → Turned raw w table r m next → ahead r (length raw) < ahead t (length raw)
-unfolding ahead
-ahead_less {raw} {w} {table} t {r} {m} {next} o g l u = rw o (go r.over u.is)
-  where
-    go : (b : Bool) → TurnedTo b raw w table r m next → cond b 0 (suc (length raw) - r.at) < suc (length raw) - t.at
-    go true f = omega arith
-    go false (h, q) = omega (arith, q)
+    record { is = (subst (Holds raw w vs t) (sym all) k.holds, ap length (k.left ∙ ap (λ (z : Pieces). z.left) ps) ∙ length-drop t.at raw) }

@@ -1,22 +1,24 @@
 -- Laws of the place of a name: what the two searches say of the tree, and where an entry goes whose name is not there. Assumes nothing.
-use Prim.Native.Nat.{ℕ, zero, suc, ◌≤◌, Ordering}
+use Prim.Native.Nat.{ℕ, zero, suc, Ordering}
 use mathlib.Core.Path.{◌≡◌, refl, sym, ap, ◌∙◌, subst}
 use mathlib.Core.Bool.{Bool, true, false, true≢false}
 use mathlib.Core.List.{List, [], ◌∷◌, ◌++◌}
-use mathlib.Core.Option.{Option, none, some}
+use mathlib.Core.Option as maybe
+use mathlib.Core.Option.{none, some}
 use native.Mathlib.Omega.{arith}
 use lib.ListN.{length, take, drop}
 use Rattle.model.specs.Bytes.{Bytes, cmp, by}
 use Rattle.model.specs.Map.{find, put, rising, rising_from, is_some}
-use Rattle.model.specs.Search.{Spot, hit, miss, searched}
+use Rattle.model.specs.Search.{miss}
 use Rattle.model.specs.Tree.{BLOB, is_tree, Entry, Tree, as_kind, key, or_else, entry_of}
 use Rattle.model.proofs.ByteLaws.{same_not}
 use Rattle.model.proofs.MapLaws.{cmp_refl, cmp_lt, cmp_gt, cmp_trans, above_head, above_tail, put_front}
-use Rattle.model.proofs.SearchLaws.{Right, halving_right, above_place}
-use Rattle.names_compact.specs.Compact.{spot_of, begun}
+use Rattle.model.proofs.SearchLaws.{Right, above_place}
+use Rattle.names_compact.specs.Compact.{begun}
 use Rattle.names_compact.proofs.TwinLaws.{tree_before_lem, no_tree_lem}
 use Rattle.names.proofs.FollowLaws.{file_tree}
-use Rattle.names_salvage.specs.Answers.{PlaceIs}
+use Rattle.std.specs.Prelude.{Result, Ok, Err}
+use Rattle.names_salvage.specs.Answers.{SearchIn, SearchIs, PlaceIs}
 
 -- where a lower key goes in, a higher one does that all from there on are above
 module _ {A : Type 0} (key : A → Bytes) (a e : A) (lower : cmp (key a) (key e) ≡ Ordering.lt) where
@@ -36,9 +38,6 @@ module _ {A : Type 0} (key : A → Bytes) (a e : A) (lower : cmp (key a) (key e)
           rw (cmp_lt (key x) (key e) (cmp_trans (key x) (key a) (key e) (cmp_gt (key a) (key x) o) lower), ih f z)
 
 module _ (t : Tree) (n : Bytes) (up : rising key t ≡ true) where
-  right : (k : Bytes) (s : Spot) → s ≡ (searched key k t).spot → Right key k t s
-  right k s e = subst (Right key k t) (sym e) (halving_right key (length t) k t (omega arith) up)
-
   -- a file of the name
   abbrev a : Entry
   a = record { mode = BLOB; name = n; id = [] }
@@ -47,23 +46,21 @@ module _ (t : Tree) (n : Bytes) (up : rising key t ≡ true) where
   unfolding is_tree
   file_key = refl
 
-  pub place_found : (i : ℕ) → spot_of true i ≡ (searched key (as_kind false n) t).spot → (b : Bool) → PlaceIs t n b true i
-  place_found i e b =
-      let r = right (as_kind false n) (hit i) e in
-      record {
-        is = ap (λ (o : Option Entry). is_some (or_else o (find key (as_kind true n) t))) r.3;
-        within = λ z. absurd (true≢false z);
-        goes = λ z. absurd (true≢false z);
-      }
+  either : (o p : maybe.Option Entry) → is_some o ≡ true → is_some (or_else o p) ≡ true
+  either none p h = absurd (true≢false (sym h))
+  either (some x) p h = refl
 
-  module _ (i : ℕ) (e : spot_of false i ≡ (searched key (as_kind false n) t).spot) where
+  -- a file that is found
+  pub place_found : {r : Result ℕ ℕ} → SearchIs t (as_kind false n) r → {i : ℕ} → r ≡ Ok i → (b : Bool) → PlaceIs t n b r
+  place_found s q b =
+      rw q (record { is = either (find key (as_kind false n) t) (find key (as_kind true n) t) (subst (SearchIn t (as_kind false n)) q s.is) })
+
+  -- a file that is not there
+  module _ {r : Result ℕ ℕ} (s : SearchIs t (as_kind false n) r) {i : ℕ} (e : r ≡ Err i) where
     abbrev R : Right key n t (miss i)
-    R = right (as_kind false n) (miss i) e
+    R = subst (SearchIn t (as_kind false n)) e s.is
 
-    pub place_within : i ≤ length t
-    place_within = R.2
-
-    entry_is : (o : Option Entry) → find key (as_kind true n) t ≡ o → is_some (entry_of n t) ≡ is_some o
+    entry_is : (o : maybe.Option Entry) → find key (as_kind true n) t ≡ o → is_some (entry_of n t) ≡ is_some o
     entry_is o f = rw (R.0, f)
 
     -- the tree goes where the file would, if no name there begins with this one
@@ -81,61 +78,5 @@ module _ (t : Tree) (n : Bytes) (up : rising key t ≡ true) where
     goes_as f true x q = tree_goes f x q
     goes_as f false x q = R.1 x q
 
-    pub place_away : begun n (drop i t) ≡ false → (b : Bool) → PlaceIs t n b false i
-    place_away f b =
-        record {
-          is = entry_is none (no_tree_lem n t i up R f);
-          within = λ z. R.2;
-          goes = λ z. goes_as f b;
-        }
-
-    pub place_twin : (j : ℕ) → spot_of true j ≡ (searched key (as_kind true n) t).spot → (b : Bool) → PlaceIs t n b true j
-    place_twin j f b =
-        let r = right (as_kind true n) (hit j) f in
-        record {
-          is = entry_is (some r.0) r.3;
-          within = λ z. absurd (true≢false z);
-          goes = λ z. absurd (true≢false z);
-        }
-
-    pub place_tree : (j : ℕ) → spot_of false j ≡ (searched key (as_kind true n) t).spot → PlaceIs t n true false j
-    place_tree j f =
-        let r = right (as_kind true n) (miss j) f in
-        record { is = entry_is none r.0; within = λ z. r.2; goes = λ z x q. r.1 x q }
-
-    pub place_file : (j : ℕ) → spot_of false j ≡ (searched key (as_kind true n) t).spot → PlaceIs t n false false i
-    place_file j f =
-        let r = right (as_kind true n) (miss j) f in
-        record { is = entry_is none r.0; within = λ z. R.2; goes = λ z x q. R.1 x q }
-
--- the same of what a search gives back: f says whether it found the file, g whether it found the tree
-module _ (t : Tree) (n : Bytes) (up : rising key t ≡ true) where
-  pub told_found : (f : Bool) → f ≡ true → (i : ℕ) → spot_of f i ≡ (searched key (as_kind false n) t).spot → (b : Bool) → PlaceIs t n b f i
-  told_found true z i e b = place_found t n up i e b
-  told_found false z i e b = absurd (true≢false (sym z))
-
-  pub told_away : (f : Bool) → f ≡ false → (i : ℕ) → spot_of f i ≡ (searched key (as_kind false n) t).spot → begun n (drop i t) ≡ false → (b : Bool) → PlaceIs t n b f i
-  told_away true z i e h b = absurd (true≢false z)
-  told_away false z i e h b = place_away t n up i e h b
-
-  pub told_twin : (f : Bool) → f ≡ false → (i : ℕ) → spot_of f i ≡ (searched key (as_kind false n) t).spot → (g : Bool) → g ≡ true → (j : ℕ) → spot_of g j ≡ (searched key (as_kind true n) t).spot → (b : Bool) → PlaceIs t n b g j
-  told_twin true z i e g y j h b = absurd (true≢false z)
-  told_twin false z i e true y j h b = place_twin t n up i e j h b
-  told_twin false z i e false y j h b = absurd (true≢false (sym y))
-
-  pub told_tree : (f : Bool) → f ≡ false → (i : ℕ) → spot_of f i ≡ (searched key (as_kind false n) t).spot → (g : Bool) → g ≡ false → (j : ℕ) → spot_of g j ≡ (searched key (as_kind true n) t).spot → (b : Bool) → b ≡ true → PlaceIs t n b g j
-  told_tree true z i e g y j h b x = absurd (true≢false z)
-  told_tree false z i e true y j h b x = absurd (true≢false y)
-  told_tree false z i e false y j h true x = place_tree t n up i e j h
-  told_tree false z i e false y j h false x = absurd (true≢false (sym x))
-
-  pub told_file : (f : Bool) → f ≡ false → (i : ℕ) → spot_of f i ≡ (searched key (as_kind false n) t).spot → (g : Bool) → g ≡ false → (j : ℕ) → spot_of g j ≡ (searched key (as_kind true n) t).spot → (b : Bool) → b ≡ false → PlaceIs t n b f i
-  told_file true z i e g y j h b x = absurd (true≢false z)
-  told_file false z i e true y j h b x = absurd (true≢false y)
-  told_file false z i e false y j h true x = absurd (true≢false x)
-  told_file false z i e false y j h false x = place_file t n up i e j h
-
-  -- a search that found nothing stands within the tree
-  pub told_within : (f : Bool) → f ≡ false → (i : ℕ) → spot_of f i ≡ (searched key (as_kind false n) t).spot → i ≤ length t
-  told_within true z i e = absurd (true≢false z)
-  told_within false z i e = place_within t n up i e
+    pub place_away : begun n (drop i t) ≡ false → (b : Bool) → PlaceIs t n b (Err i)
+    place_away f b = record { is = record { is = entry_is none (no_tree_lem n t i up R f); within = R.2; goes = goes_as f b } }

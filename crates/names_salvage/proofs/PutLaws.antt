@@ -7,7 +7,7 @@ use native.Mathlib.Numerals.{add-one}
 use native.Mathlib.Omega.{arith}
 use lib.Dec.{eqb}
 use borrow.Author.Tests.{eqb-true, eqb-false, eq-eqb}
-use lib.ListN.{length, take, drop, get_or, length-append, length-drop}
+use lib.ListN.{length, take, drop, get_or, length-append}
 use lib.Seq.{take_at, take-suc, take_all}
 use Rattle.model.specs.Bytes.{Bytes, has}
 use Rattle.model.specs.Raw.{raw_entry, raw_tree}
@@ -19,9 +19,9 @@ use Rattle.names.specs.Splice.{splice}
 use Rattle.names.proofs.StandingLaws.{no_nul, good_plain}
 use Rattle.names.proofs.WriteLaws.{Wrote, wrote_nothing, wrote_entry, entry_long, raw_snoc}
 use Rattle.names_compact.specs.Compact.{blank}
-use Rattle.names_salvage.specs.Answers.{Stands, Lists}
+use Rattle.names_salvage.specs.Answers.{Stands, empty, Lists}
+use Rattle.names_salvage.specs.declared.table.Slot.{Slot}
 use Rattle.names_salvage.proofs.StandLaws.{name_there}
-use Rattle.names_salvage.proofs.TableLaws.{listed, listed_long}
 
 -- what is before the first of a byte ends there
 pub index_past : (b : ℕ) (n r : Bytes) → has b n ≡ false → index_of b (n ++ (b ∷ r)) ≡ length n
@@ -33,22 +33,22 @@ index_past b (x ∷ n) r h = go (eqb x b) refl (index_past b n r)
     go true e ih = absurd (true≢false (sym (has_here b x n (eqb-true x b e)) ∙ h))
     go false e ih = ap suc (ih (sym (has_past b x n (eqb-false x b e)) ∙ h))
 
-module _ {raw : Bytes} {v w : ℕ} {e : Entry} (st : Stands raw v e) (wide : length e.id ≡ w) where
-  pub name_length : {n : ℕ} {l : Bytes} → n ≡ index_of 0 l → l ≡ drop (v / 8) raw → n ≡ length e.name
-  name_length en el = en ∙ ap (index_of 0) (el ∙ name_there st) ∙ index_past 0 e.name (e.id ++ st.rest) (no_nul e.name (good_plain e.name st.good))
+-- the entry of a slot: its name's end, and its bytes
+module _ {raw : Bytes} {v w : ℕ} {e : Entry} (st : Stands raw v e) (wide : length e.id ≡ w) {l : Bytes} (el : l ≡ drop (v / 8) raw) where
+  name_end : index_of 0 l ≡ length e.name
+  name_end = ap (index_of 0) (el ∙ name_there st) ∙ index_past 0 e.name (e.id ++ st.rest) (no_nul e.name (good_plain e.name st.good))
 
-  pub all_there : v / 8 + length e.name + 1 + w ≤ length raw
-  all_there =
-      omega (arith, sym (length-drop (v / 8) raw) ∙ ap length (name_there st), length-append e.name (0 ∷ (e.id ++ st.rest)), length-append e.id st.rest, wide)
+  pub has_end : index_of 0 l ≡ length l → ⊥
+  has_end h = omega (arith, name_end, ap length (el ∙ name_there st), length-append e.name (0 ∷ (e.id ++ st.rest)))
 
-  pub piece_long : {n : ℕ} → n ≡ length e.name → v / 8 + n + 1 + w - (v / 8 - 1 - v % 8) ≡ length (raw_entry e)
-  piece_long q = omega (arith, st.start, st.text, entry_long e, wide, q)
+  module _ {n m : ℕ} (en : n ≡ index_of 0 l) (em : m ≡ v % 8) where
+    pub piece_long : m + 1 + n + 1 + w ≡ length (raw_entry e)
+    piece_long = omega (arith, st.text, entry_long e, wide, name_end)
 
-  pub piece_bytes : {n : ℕ} → n ≡ length e.name → take (v / 8 + n + 1 + w - (v / 8 - 1 - v % 8)) (drop (v / 8 - 1 - v % 8) raw) ≡ raw_entry e
-  piece_bytes {n} q =
-      let a : v / 8 - 1 - v % 8 ≡ st.at = omega (arith, st.start) in
-      ap (λ (k : ℕ). take (v / 8 + n + 1 + w - (v / 8 - 1 - v % 8)) (drop k raw)) a ∙ ap (take (v / 8 + n + 1 + w - (v / 8 - 1 - v % 8))) st.bytes
-      ∙ take_at (raw_entry e) st.rest (v / 8 + n + 1 + w - (v / 8 - 1 - v % 8)) (sym (piece_long q))
+    pub piece_bytes : {at : ℕ} → at ≡ v / 8 - 1 - v % 8 → take (m + 1 + n + 1 + w) (drop at raw) ≡ raw_entry e
+    piece_bytes {at} ea =
+        let a : at ≡ st.at = omega (arith, st.start, ea) in
+        ap (λ (k : ℕ). take (m + 1 + n + 1 + w) (drop k raw)) a ∙ ap (take (m + 1 + n + 1 + w)) st.bytes ∙ take_at (raw_entry e) st.rest (m + 1 + n + 1 + w) (sym piece_long)
 
 -- a write of bytes is one of what they are
 pub put_as_lem : {s s' : Bytes} → s ≡ s' → {r : ℕ} (to : ℕ) {d : Bytes} (d₀ : Bytes) → (r ≡ to + length s) × (d ≡ splice d₀ to s) → (r ≡ to + length s') × (d ≡ splice d₀ to s')
@@ -66,27 +66,26 @@ raw_front (suc i) [] = omega arith
 raw_front (suc i) (x ∷ xs) = omega (arith, raw_front i xs, length-append (raw_entry x) (raw_tree (take i xs)), length-append (raw_entry x) (raw_tree xs))
 
 -- the first i entries of a tree are written
-abbrev pub Tried : Bytes → ℕ → List ℕ → ℕ → Bytes → Tree → Type 0
-Tried raw w table n d₀ t = Lists raw (take n table) t × (good_entries w t ≡ true) × (length (raw_tree t) ≤ length d₀)
+abbrev pub Tried : Bytes → ℕ → List Slot → Bytes → Tree → Type 0
+Tried raw w vs d₀ t = Lists raw vs t × (good_entries w t ≡ true) × (length (raw_tree t) ≤ length d₀)
 
-pub record Writing (raw : Bytes) (w : ℕ) (table : List ℕ) (n : ℕ) (d₀ d : Bytes) (i to : ℕ) : Type 0 where
-  pub within : i ≤ n
+pub record Writing (raw : Bytes) (w : ℕ) (vs : List Slot) (d₀ d : Bytes) (i to : ℕ) : Type 0 where
   pub long : length d ≡ length d₀
-  pub wrote : (t : Tree) → Tried raw w table n d₀ t → Wrote d₀ 0 (raw_tree (take i t)) d to
+  pub wrote : (t : Tree) → Tried raw w vs d₀ t → Wrote d₀ 0 (raw_tree (take i t)) d to
 
-pub write_begin : (raw : Bytes) (w : ℕ) (table : List ℕ) (n : ℕ) (d : Bytes) → Writing raw w table n d d 0 0
-write_begin raw w table n d = record { within = omega arith; long = refl; wrote = λ t l. wrote_nothing d }
+pub write_begin : (raw : Bytes) (w : ℕ) (vs : List Slot) (d : Bytes) → Writing raw w vs d d 0 0
+write_begin raw w vs d = record { long = refl; wrote = λ t l. wrote_nothing d }
 
-module _ {raw : Bytes} {w : ℕ} {table : List ℕ} {n : ℕ} {d₀ d : Bytes} {i to : ℕ} (wr : Writing raw w table n d₀ d i to) (h : i < n) (g : n ≤ length table) where
-  module _ (t : Tree) (l : Tried raw w table n d₀ t) where
+module _ {raw : Bytes} {w : ℕ} {vs : List Slot} {d₀ d : Bytes} {i to : ℕ} (wr : Writing raw w vs d₀ d i to) (h : i < length vs) (s : Slot) (q : s ≡ get_or vs i empty) where
+  module _ (t : Tree) (l : Tried raw w vs d₀ t) where
     abbrev x : Entry
     x = get_or t i blank
 
-    pub stands_here : Stands raw (get_or table i 0) x
-    stands_here = listed table n l.0 i h g
+    many : length t ≡ length vs
+    many = sym l.0.many
 
-    many : length t ≡ n
-    many = listed_long table n l.0 g
+    pub stands_here : Stands raw s.word x
+    stands_here = subst (λ (z : Slot). Stands raw z.word x) (sym q) (l.0.each i (omega (arith, many)))
 
     pub wide_here : length x.id ≡ w
     wide_here = good_at w t i l.1 (omega (arith, many))
@@ -101,16 +100,15 @@ module _ {raw : Bytes} {w : ℕ} {table : List ℕ} {n : ℕ} {d₀ d : Bytes} {
         omega (arith, q, raw_front (suc i) t, l.2, wr.long, (wr.wrote t l).next)
 
   pub write_more : {d' : Bytes} {to' : ℕ} → length d' ≡ length d →
-      ((e : Entry) → Stands raw (get_or table i 0) e → length e.id ≡ w → (to' ≡ to + length (raw_entry e)) × (d' ≡ splice d to (raw_entry e))) → Writing raw w table n d₀ d' (i + 1) to'
+      ((e : Entry) → Stands raw s.word e → length e.id ≡ w → (to' ≡ to + length (raw_entry e)) × (d' ≡ splice d to (raw_entry e))) → Writing raw w vs d₀ d' (i + 1) to'
   write_more {d'} {to'} lg put =
       record {
-        within = omega arith;
         long = lg ∙ wr.long;
         wrote = λ t l.
             subst (λ (u : Tree). Wrote d₀ 0 (raw_tree u) d' to') (sym (ap (λ (k : ℕ). take k t) (add-one i) ∙ one_more t l))
             (wrote_entry (take i t) (wr.wrote t l) (x t l) (fits_here t l) (put (x t l) (stands_here t l) (wide_here t l)));
       }
 
-pub write_end : {raw : Bytes} {w : ℕ} {table : List ℕ} {n : ℕ} {d₀ d : Bytes} {i to : ℕ} → Writing raw w table n d₀ d i to → n ≤ i → n ≤ length table → (t : Tree) → Tried raw w table n d₀ t → d ≡ splice d₀ 0 (raw_tree t)
-write_end {raw} {w} {table} {n} {d₀} {d} {i} wr h g t l =
-    (wr.wrote t l).done ∙ ap (λ (u : Tree). splice d₀ 0 (raw_tree u)) (take_all i t (omega (arith, listed_long table n l.0 g)))
+pub write_end : {raw : Bytes} {w : ℕ} {vs : List Slot} {d₀ d : Bytes} {i to : ℕ} → Writing raw w vs d₀ d i to → length vs ≤ i → (t : Tree) → Tried raw w vs d₀ t → d ≡ splice d₀ 0 (raw_tree t)
+write_end {raw} {w} {vs} {d₀} {d} {i} wr h t l =
+    (wr.wrote t l).done ∙ ap (λ (u : Tree). splice d₀ 0 (raw_tree u)) (take_all i t (omega (arith, l.0.many)))

@@ -3,3 +3,5 @@ pub mod Examples
 pub mod Mending
 pub mod Pieces
 pub mod Report
+pub mod Slots
+pub mod Tables

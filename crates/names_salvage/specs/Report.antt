@@ -1,10 +1,9 @@
 -- The report of a mended tree: five lines, in order, and the tree in hex; a refusal is one line with its number. Assumes nothing.
-use Rattle.std.specs.Prelude.{ℕ, [], ◌∷◌, ◌++◌, cond, eqb, take, replicate}
+use Rattle.std.specs.Prelude.{ℕ, [], ◌∷◌, ◌++◌, cond, eqb, take, replicate, Option}
 use Rattle.model.specs.Bytes.{Bytes}
 use Rattle.lines.specs.Hex.{hex_of}
 use Rattle.lines.specs.Puts.{Puts}
 use Rattle.lines.specs.Texts.{decimal, line_of}
-use Rattle.lines.specs.declared.text.Put.{Put}
 use Rattle.names_salvage.specs.Mending.{Answer, salvaged}
 
 -- `code`, `cut`, `badname`, `badmode`, `double`, `moved`, `raw`
@@ -49,5 +48,5 @@ unfoldable pub reported : ℕ → Bytes → Bytes
 reported w raw = report_of (salvaged w raw (replicate 57344 0))
 
 -- s stands at the front of e, where d was, if r says so; otherwise it does not fit
-pub record Told (d s : Bytes) (r : Put) (e : Bytes) : Type 0 where
+pub record Told (d s : Bytes) (r : Option ℕ) (e : Bytes) : Type 0 where
   pub is : Puts d 0 s r e

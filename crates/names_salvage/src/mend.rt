@@ -1,10 +1,15 @@
 // A damaged tree mended in one call.
-ghost use Rattle.std.specs.Prelude.{◌≡◌, true, ◌||◌, ◌+◌, ◌≤◌, eqb, length, take};
+ghost use Rattle.std.specs.Prelude.{◌≡◌, Err, IfOk, ◌+◌, ◌≤◌, true, length};
 ghost use Rattle.model.specs.Raw.{raw_entry, raw_tree};
 ghost use Rattle.model.specs.Tree.{Entry, Tree, good_entries};
 ghost use Rattle.names.specs.Splice.{splice};
-ghost use Rattle.names_salvage.specs.Answers.{Stands, Lists, answer};
-ghost use Rattle.names_salvage.specs.Mending.{refusal, mended, salvaged};
+ghost use Rattle.names_salvage.specs.Answers.{Stands, Lists, answer, outcome};
+ghost use Rattle.names_salvage.specs.Mending.{salvaged, takes};
+
+use crate::table::{Slot, Table};
+use names::part::{after, between};
+use names::path::position;
+use names::write::put;
 
 // The answer: a number, the length of the tree that was written or is needed, and what was changed.
 #[repr(C)]
@@ -19,94 +24,101 @@ pub struct Mended {
     pub moved: usize,
 }
 
-// A refusal, which writes nothing.
-fn refused(code: u32, len: usize) -> Mended
-    ensures { (d : _) → answer result d ≡ refusal code len d }
-{
-    Mended {
-        code,
-        len,
-        cut: 0,
-        badname: 0,
-        badmode: 0,
-        double: 0,
-        moved: 0,
+// Why a tree is not mended, with nothing written: its ids have no known width or it has 2 ^ 29 bytes or more; what can be kept passes a limit; or the output is too short.
+#[derive(Clone, Copy, PartialEq, Eq)]
+pub enum Refusal {
+    NotTaken,
+    OverLimit,
+    TooShort { needed: usize },
+}
+
+impl From<Refusal> for Mended {
+    ghost from_gives = { λ e r. (d : _) → answer r d ≡ outcome (Err e) d };
+
+    fn from(refusal: Refusal) -> Mended {
+        let (code, len) = match refusal {
+            Refusal::NotTaken => (255, 0),
+            Refusal::OverLimit => (5, 0),
+            Refusal::TooShort { needed } => (11, needed),
+        };
+        Mended {
+            code,
+            len,
+            cut: 0,
+            badname: 0,
+            badmode: 0,
+            double: 0,
+            moved: 0,
+        }
     }
 }
 
 // Writes an entry of the table as it stands, and gives the place after it.
-fn put_piece(raw: &[u8], width: usize, v: usize, out: &mut [u8], to: usize) -> usize
-    requires { (e : Entry) × Stands raw.now v e × (length e.id ≡ width) × (to + length (raw_entry e) ≤ length out.old) }
-    ensures { (e : Entry) → Stands raw.now v e → length e.id ≡ width
+fn put_piece(raw: &[u8], width: usize, slot: Slot, out: &mut [u8], to: usize) -> usize
+    requires { (e : Entry) × Stands raw.now slot.word e × (length e.id ≡ width) × (to + length (raw_entry e) ≤ length out.old) }
+    ensures { (e : Entry) → Stands raw.now slot.word e → length e.id ≡ width
         → (result ≡ to + length (raw_entry e)) × (out.new ≡ splice out.old to (raw_entry e)) }
 {
-    let name_at = v / 8;
-    let at = name_at - 1 - v % 8;
-    let n = names::path::index_of(names::part::after(raw, name_at), 0);
-    let len = name_at + n + 1 + width - at;
-    names::write::put(out, to, names::part::between(raw, at, len))
+    let name_at = slot.name_at();
+    let mode_len = slot.mode_len();
+    let Some(name_len) = position(after(raw, name_at), 0) else {
+        unreachable!()
+    };
+    let len = mode_len + 1 + name_len + 1 + width;
+    put(out, to, between(raw, name_at - 1 - mode_len, len))
 }
 
-// Writes the first n entries of the table, one after the other.
-fn put_all(raw: &[u8], width: usize, table: &[u32], n: usize, out: &mut [u8])
-    requires { ((t : Tree) × Lists raw.now (take n table.now) t × (good_entries width t ≡ true) × (length (raw_tree t) ≤ length out.old)) × (n ≤ length table.now) }
-    ensures { (t : Tree) → Lists raw.now (take n table.now) t → good_entries width t ≡ true
+// Writes the entries of the table, one after the other.
+fn put_all(raw: &[u8], width: usize, slots: &[Slot], out: &mut [u8])
+    requires { (t : Tree) × Lists raw.now slots.now t × (good_entries width t ≡ true) × (length (raw_tree t) ≤ length out.old) }
+    ensures { (t : Tree) → Lists raw.now slots.now t → good_entries width t ≡ true
         → length (raw_tree t) ≤ length out.old → out.new ≡ splice out.old 0 (raw_tree t) }
 {
-    let mut i = 0;
     let mut to = 0;
-    while i < n {
-        let v = table[i] as usize;
-        to = put_piece(raw, width, v, out, to);
-        i += 1;
+    for slot in slots {
+        to = put_piece(raw, width, *slot, out, to);
     }
 }
 
-// Mends a tree with ids of so many bytes.
-fn mend_tree(raw: &[u8], width: usize, out: &mut [u8]) -> Mended
-    requires { length raw.now ≤ 536870911 }
-    ensures { answer result out.new ≡ mended width raw.now out.old }
+// Whether a tree of these bytes, with ids of so many, is one to be mended.
+fn is_taken(raw: &[u8], width: usize) -> bool
+    ensures { result ≡ takes width raw.now }
 {
-    let mut table = [0u32; 1024];
-    let t = crate::pass::pass(raw, width, &mut table);
-    if t.over {
-        return refused(5, 0);
+    matches!(width, 20 | 32) && raw.len() < 536870912
+}
+
+// Mends a tree, unless it is refused.
+pub(crate) fn try_mend(raw: &[u8], width: usize, out: &mut [u8]) -> Result<Mended, Refusal>
+    ensures value { outcome result out.new ≡ salvaged width raw.now out.old }
+    ensures code { IfOk result (λ m. m.code ≡ 0) }
+{
+    if !is_taken(raw, width) {
+        return Err(Refusal::NotTaken);
     }
-    let len = t.len;
-    if out.len() < len {
-        return refused(11, len);
+    let mut table = Table::new();
+    let t = crate::pass::pass(raw, width, &mut table).ok_or(Refusal::OverLimit)?;
+    let needed = t.len;
+    if out.len() < needed {
+        return Err(Refusal::TooShort { needed });
     }
-    put_all(raw, width, &table, t.kept, out);
-    Mended {
+    put_all(raw, width, table.kept(), out);
+    Ok(Mended {
         code: 0,
-        len,
+        len: needed,
         cut: raw.len() - t.at,
         badname: t.badname,
         badmode: t.badmode,
         double: t.double,
         moved: t.moved,
-    }
-}
-
-// Whether ids of so many bytes have a format.
-fn known(width: usize) -> bool
-    ensures { result ≡ (eqb width 20 || eqb width 32) }
-{
-    if width == 20 {
-        return true;
-    }
-    width == 32
+    })
 }
 
 // Reads what can be read of a tree with ids of 20 or 32 bytes, and writes a well-formed one of what can be kept.
 pub fn mend(raw: &[u8], width: usize, out: &mut [u8]) -> Mended
     ensures { answer result out.new ≡ salvaged width raw.now out.old }
 {
-    if !known(width) {
-        return refused(255, 0);
+    match try_mend(raw, width, out) {
+        Ok(mended) => mended,
+        Err(refusal) => Mended::from(refusal),
     }
-    if 536870911 < raw.len() {
-        return refused(255, 0);
-    }
-    mend_tree(raw, width, out)
 }

@@ -3,55 +3,41 @@ ghost use Rattle.std.specs.Prelude.{◌≡◌};
 ghost use Rattle.model.specs.Tree.{good_name};
 ghost use Rattle.names_salvage.specs.Answers.{ReadAs};
 
-// What stands at a place: an entry, with where its parts are, or none that can be read.
+use names::part::{after, front};
+use names::path::position;
+
+// An entry as it stands: where it begins, the text of its mode, its name, and where what is left begins.
 #[derive(Clone, Copy)]
-pub enum Read {
-    Whole {
-        mode_len: usize,
-        name_at: usize,
-        name_len: usize,
-        next: usize,
-    },
-    Cut,
+pub struct RawPiece<'a> {
+    pub at: usize,
+    pub mode: &'a [u8],
+    pub name: &'a [u8],
+    pub next: usize,
 }
 
 // Reads the entry at a place, with an id of so many bytes.
-pub fn read_piece(raw: &[u8], at: usize, width: usize) -> Read
+pub fn read_piece(raw: &[u8], at: usize, width: usize) -> Option<RawPiece<'_>>
     ensures { ReadAs raw.now at width result }
 {
-    if raw.len() <= at {
-        return Read::Cut;
+    let entry = after(raw, at);
+    let mode_len = position(entry, b' ')?;
+    let named = after(entry, mode_len + 1);
+    let name_len = position(named, 0)?;
+    let id = after(named, name_len + 1);
+    if id.len() < width {
+        return None;
     }
-    let m = names::path::index_of(names::part::after(raw, at), 32);
-    if raw.len() - at <= m {
-        return Read::Cut;
-    }
-    let name_at = at + m + 1;
-    let n = names::path::index_of(names::part::after(raw, name_at), 0);
-    if raw.len() - name_at <= n {
-        return Read::Cut;
-    }
-    let id_at = name_at + n + 1;
-    if raw.len() - id_at < width {
-        return Read::Cut;
-    }
-    Read::Whole {
-        mode_len: m,
-        name_at,
-        name_len: n,
-        next: id_at + width,
-    }
+    Some(RawPiece {
+        at,
+        mode: front(entry, mode_len),
+        name: front(named, name_len),
+        next: raw.len() - (id.len() - width),
+    })
 }
 
 // Whether a name may stand in a tree.
 pub fn good_name(name: &[u8]) -> bool
     ensures { result ≡ good_name name.now }
 {
-    if name.len() == 0 {
-        return false;
-    }
-    if 255 < name.len() {
-        return false;
-    }
-    names::eight::plain_name(name)
+    !name.is_empty() && name.len() <= 255 && names::eight::plain_name(name)
 }

@@ -1,153 +1,173 @@
-// The table of the entries kept, in Git's order: for each eight times the place of its name, and how long its mode's text is.
-ghost use Rattle.std.specs.Prelude.{◌≡◌, true, false, ◌∷◌, ◌++◌, ◌+◌, ◌≤◌, ◌<◌, length, take, drop, get_or};
-ghost use Rattle.model.specs.Bytes.{cmp, same};
+// The table of the entries kept, in Git's order.
+ghost use Rattle.std.specs.Prelude.{◌≡◌, true, ◌∷◌, ◌++◌, ◌+◌, ◌*◌, ◌/◌, ◌%◌, ◌≤◌, ◌<◌, eqb, length, take, drop};
+ghost use Rattle.names_compact.specs.Compact.{begun};
 ghost use Rattle.model.specs.Map.{rising};
-ghost use Rattle.model.specs.Raw.{mode_of};
-ghost use Rattle.model.specs.Search.{searched};
-ghost use Rattle.model.specs.Tree.{Entry, Tree, as_kind, key, good_name};
-ghost use Rattle.names.specs.Answers.{as_ordering};
-ghost use Rattle.names_compact.specs.Compact.{spot_of};
-ghost use Rattle.names_salvage.specs.Answers.{Stands, Lists, of_tree, PlaceIs};
+ghost use Rattle.model.specs.Tree.{Tree, as_kind, key, good_name};
+ghost use Rattle.names_salvage.specs.Answers.{Lists, SearchIs, PlaceIs};
+ghost use Rattle.names_salvage.specs.Slots.{order_byte, slot_order};
 
-use names::mode::{Mode, ModeRead};
-use names::order::Order;
+use crate::piece::RawPiece;
+use names::order::Key;
+use names::part::after;
+use std::cmp::Ordering;
 
-// Where a name is in the table, or where it would stand.
+// An entry of the table.
+// Stays: the number is eight times the place of the entry's name, and how long its mode's text is, so that 1,024 entries take 4 KiB of fixed memory.
 #[derive(Clone, Copy)]
-pub struct Spot {
-    pub found: bool,
-    pub index: usize,
+pub struct Slot {
+    pub word: u32,
 }
 
-// Whether a text is the mode of a tree.
-fn tree_text(text: &[u8]) -> bool
-    ensures { result ≡ of_tree (mode_of text.now) }
-{
-    match Mode::from_octal(text) {
-        ModeRead::Kind(kind) => names::mode::is_tree(kind),
-        ModeRead::Refused => false,
-    }
-}
-
-// The byte at i of a name where its order is taken, or 0 at its end.
-fn key_byte(name: &[u8], tree: bool, i: usize) -> u8
-    requires { i ≤ length name.now }
-    ensures { result ≡ get_or (as_kind tree name.now) i 0 }
-{
-    if i < name.len() {
-        return name[i];
-    }
-    if tree { 47 } else { 0 }
-}
-
-// The byte at i of the name of an entry of the table where its order is taken, or 0 at its end.
-fn other_byte(raw: &[u8], v: usize, i: usize) -> u8
-    requires { (e : Entry) × Stands raw.now v e × (i ≤ length e.name) }
-    ensures { (e : Entry) → Stands raw.now v e → i ≤ length e.name → result ≡ get_or (key e) i 0 }
-{
-    let name_at = v / 8;
-    let b = raw[name_at + i];
-    if b != 0 {
-        return b;
-    }
-    if tree_text(names::part::between(raw, name_at - 1 - v % 8, v % 8)) {
-        47
-    } else {
-        0
-    }
-}
-
-// The order of a name and an entry of the table.
-fn order_at(raw: &[u8], v: usize, name: &[u8], tree: bool) -> Order
-    requires { ((e : Entry) × Stands raw.now v e) × (good_name name.now ≡ true) }
-    ensures { (e : Entry) → Stands raw.now v e → as_ordering result ≡ cmp (as_kind tree name.now) (key e) }
-{
-    let i = names::order::shared(name, names::part::after(raw, v / 8));
-    let x = key_byte(name, tree, i);
-    let y = other_byte(raw, v, i);
-    if x < y {
-        return Order::Less;
-    }
-    if y < x { Order::Greater } else { Order::Equal }
-}
-
-// Whether an entry of the table has a name that begins with this one.
-fn begins_at(raw: &[u8], v: usize, name: &[u8]) -> bool
-    requires { good_name name.now ≡ true }
-    ensures { (e : Entry) → Stands raw.now v e → result ≡ same (take (length name.now) e.name) name.now }
-{
-    names::order::shared(name, names::part::after(raw, v / 8)) == name.len()
-}
-
-// Searches a name among the first n entries by halving, in file order or in tree order.
-fn search(raw: &[u8], table: &[u32], n: usize, name: &[u8], tree: bool) -> Spot
-    requires { ((t : Tree) × Lists raw.now (take n table.now) t) × (n ≤ length table.now) × (good_name name.now ≡ true) }
-    ensures { (t : Tree) → Lists raw.now (take n table.now) t
-        → spot_of result.found result.index ≡ (searched key (as_kind tree name.now) t).spot }
-{
-    let mut len = n;
-    let mut lo = 0;
-    while 0 < len {
-        let m = len / 2;
-        let v = table[lo + m] as usize;
-        match order_at(raw, v, name, tree) {
-            Order::Less => {
-                len = m;
-            }
-            Order::Equal => {
-                return Spot {
-                    found: true,
-                    index: lo + m,
-                };
-            }
-            Order::Greater => {
-                lo = lo + m + 1;
-                len = len - m - 1;
-            }
+impl Slot {
+    // The slot of an entry that was read.
+    pub fn of(piece: RawPiece<'_>) -> Slot
+        requires { (length piece.mode.now < 8) × (piece.at + length piece.mode.now + 1 ≤ 536870911) }
+        ensures { result.word ≡ (piece.entry.at + length piece.entry.mode.now + 1) * 8 + length piece.entry.mode.now }
+    {
+        let mode_len = piece.mode.len();
+        Slot {
+            word: ((piece.at + mode_len + 1) * 8 + mode_len) as u32,
         }
     }
-    Spot {
-        found: false,
-        index: lo,
+
+    // Where the entry's name begins.
+    pub fn name_at(self) -> usize
+        ensures { result ≡ self.word / 8 }
+    {
+        self.word as usize / 8
+    }
+
+    // How long the text of the entry's mode is.
+    pub fn mode_len(self) -> usize
+        ensures { result ≡ self.word % 8 }
+    {
+        self.word as usize % 8
+    }
+
+    // Whether the entry is a tree: no other mode has a text of five bytes.
+    fn is_tree(self) -> bool
+        ensures { result ≡ eqb (self.word % 8) 5 }
+    {
+        self.mode_len() == 5
+    }
+
+    // How the entry stands to a name in Git's order.
+    fn order(self, raw: &[u8], sought: Key<'_>) -> Ordering
+        ensures { result ≡ slot_order raw.now sought.entry.name.now sought.entry.tree self.word }
+    {
+        let there = after(raw, self.name_at());
+        let i = names::order::shared(sought.name, there);
+        order_byte(there, self.is_tree(), i).cmp(&order_byte(sought.name, sought.tree, i))
     }
 }
 
-// Whether a name is kept already, and where an entry of it would stand. Between a file's place and the tree of its name stand only names that begin with it.
-pub fn place_for(raw: &[u8], table: &[u32], n: usize, name: &[u8], tree: bool) -> Spot
-    requires { ((t : Tree) × Lists raw.now (take n table.now) t × (rising key t ≡ true)) × (n ≤ length table.now) × (good_name name.now ≡ true) }
-    ensures { (t : Tree) → Lists raw.now (take n table.now) t → rising key t ≡ true
-        → PlaceIs t name.now tree result.found result.index }
+// The byte at i of a name where its order is taken: behind a tree's name a slash, and behind another a NUL.
+fn order_byte(name: &[u8], tree: bool, i: usize) -> u8
+    ensures { result ≡ order_byte name.now tree i }
 {
-    let file = search(raw, table, n, name, false);
-    if file.found {
-        return file;
+    match name.get(i) {
+        Some(&b) if b != 0 => b,
+        _ if tree => b'/',
+        _ => 0,
     }
-    let i = file.index;
-    if n <= i {
-        return file;
-    }
-    let v = table[i] as usize;
-    if begins_at(raw, v, name) {
-        let twin = search(raw, table, n, name, true);
-        if twin.found {
-            return twin;
-        }
-        if tree {
-            return twin;
-        }
-    }
-    file
 }
 
-// Puts a number in before the place i of the first n.
-pub fn insert(table: &mut [u32], n: usize, i: usize, v: u32)
-    requires { (i ≤ n) × (n < length table.old) }
-    ensures { take (n + 1) table.new ≡ take i (take n table.old) ++ (v ∷ drop i (take n table.old)) }
-{
-    let mut k = n;
-    while i < k {
-        table[k] = table[k - 1];
-        k -= 1;
+// The entries kept, of which there are at most 1,024.
+#[derive(Drop)]
+pub struct Table {
+    pub slots: [Slot; 1024],
+    pub len: usize,
+    ghost few: { len ≤ 1024 },
+}
+
+impl Table {
+    // A table with no entries.
+    pub fn new() -> Table
+        ensures { result.len ≡ 0 }
+    {
+        Table {
+            slots: [Slot { word: 0 }; 1024],
+            len: 0,
+        }
     }
-    table[i] = v;
+
+    // Takes all entries out.
+    pub fn clear(&mut self)
+        ensures { self.new.len ≡ 0 }
+    {
+        self.len = 0;
+    }
+
+    // The slots of the entries kept.
+    pub fn kept(&self) -> &[Slot]
+        ensures { result.now ≡ take self.now.len self.now.slots }
+    {
+        &self.slots[..self.len]
+    }
+
+    // How many entries are kept.
+    pub fn count(&self) -> usize
+        ensures { result ≡ length (take self.now.len self.now.slots) }
+    {
+        self.len
+    }
+
+    // Whether the entry at the place i, if there is one, has a name that begins with this one.
+    fn begins_at(&self, raw: &[u8], i: usize, name: &[u8]) -> bool
+        requires { good_name name.now ≡ true }
+        ensures { (t : Tree) → Lists raw.now (take self.now.len self.now.slots) t → result ≡ begun name.now (drop i t) }
+    {
+        match self.kept().get(i) {
+            Some(slot) => names::order::shared(name, after(raw, slot.name_at())) == name.len(),
+            None => false,
+        }
+    }
+
+    // Searches a name by halving.
+    fn search(&self, raw: &[u8], sought: Key<'_>) -> Result<usize, usize>
+        requires { good_name sought.name.now ≡ true }
+        ensures { (t : Tree) → Lists raw.now (take self.now.len self.now.slots) t → rising key t ≡ true → SearchIs t (as_kind sought.entry.tree sought.entry.name.now) result }
+    {
+        self.kept().binary_search_by(|slot| slot.order(raw, sought))
+    }
+
+    // Whether a name is kept already, and where an entry of it would stand. Between a file's place and the tree of its name stand only names that begin with it.
+    pub fn place_for(&self, raw: &[u8], sought: Key<'_>) -> Result<usize, usize>
+        requires { good_name sought.name.now ≡ true }
+        ensures { (t : Tree) → Lists raw.now (take self.now.len self.now.slots) t → rising key t ≡ true → PlaceIs t sought.entry.name.now sought.entry.tree result }
+    {
+        let file = self.search(
+            raw,
+            Key {
+                tree: false,
+                ..sought
+            },
+        );
+        let Err(i) = file else {
+            return file;
+        };
+        if !self.begins_at(raw, i, sought.name) {
+            return file;
+        }
+        match self.search(
+            raw,
+            Key {
+                tree: true,
+                ..sought
+            },
+        ) {
+            Err(_) if !sought.tree => file,
+            twin => twin,
+        }
+    }
+
+    // Puts a slot in before the place i.
+    pub fn insert(&mut self, i: usize, slot: Slot)
+        requires { (i ≤ length (take self.old.len self.old.slots)) × (length (take self.old.len self.old.slots) < 1024) }
+        ensures { take self.new.len self.new.slots ≡ take i (take self.old.len self.old.slots) ++ (slot ∷ drop i (take self.old.len self.old.slots)) }
+    {
+        self.slots.copy_within(i..self.len, i + 1);
+        self.slots[i] = slot;
+        self.len += 1;
+    }
 }

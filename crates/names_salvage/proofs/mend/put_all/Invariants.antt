@@ -1,9 +1,5 @@
-use Prim.Native.Nat.{◌-◌}
 use Rattle.names_salvage.proofs.PutLaws.{Writing}
 use Rattle.names_salvage.proofs.mend.put_all.Given as goal
 
-abbrev pub invariant-loop-i : goal.invariant-loop-i
-invariant-loop-i l = Writing l.raw l.width l.table l.n l.initial.out l.out l.i l.to
-
-abbrev pub decreases-loop-i : goal.decreases-loop-i
-decreases-loop-i l = l.n - l.i
+abbrev pub invariant-loop-slot : goal.invariant-loop-slot
+invariant-loop-slot l = Writing l.raw l.width l.slots l.initial.out l.out l.slot-index l.to

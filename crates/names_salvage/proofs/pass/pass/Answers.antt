@@ -1,37 +1,24 @@
 -- `names_salvage::pass::pass` meets its contract: what is left gives the answer of the whole, and a limit once passed is passed in the end. Assumes nothing.
-use borrow.Author.Tests.{not-true, not-false}
-use mathlib.Core.Path.{sym, ◌∙◌}
-use Rattle.names_salvage.proofs.PassLaws.{knows, pass_begin, pass_turn, pass_end, pass_over, read_whole, read_cut, goes_on_lem, ahead_less}
+use mathlib.Core.Path.{ap}
+use lib.ListN.{take, length}
+use Rattle.names_salvage.specs.Tables.{slots_of}
+use Rattle.names_salvage.proofs.PassLaws.{pass_begin, pass_more, pass_over, pass_end, read_whole, read_cut}
 use Rattle.names_salvage.proofs.pass.pass.Goals as goal
 
-pub loop-t-init : goal.loop-t-init
-loop-t-init c = pass_begin _ _ _ c.requires.1
+pub loop-piece-init : goal.loop-piece-init
+loop-piece-init c = pass_begin c.args.raw.now c.args.width (slots_of c.clear.new.self) (ap (λ (k : _). length (take k c.clear.new.self.slots)) c.clear.ensures) c.default-t.result c.default-t.ensures
 
-pub shape_of-table-in_default : goal.shape_of-table-in_default
-shape_of-table-in_default c = c.loop-t.invariant.room ∙ sym c.requires.1
+pub returns-in_err-t : goal.returns-in_err-t
+returns-in_err-t c =
+    let k = c.loop-piece.invariant in
+    let st = read_whole c.read_piece.ensures c.in-Some.is in
+    rw c.from_residual.ensures (pass_over k st (rw c.in_err-t.was at (c.turn.ensures _ k.m k.holds st)))
 
-pub returns-in_default : goal.returns-in_default
-returns-in_default c = pass_end c.loop-t.invariant (not-true _ c.loop-t-test.true) (read_cut c.read_piece.ensures c.in_default.is)
-
-pub turn-t-requires : goal.turn-t-requires
-turn-t-requires c =
-    let k = knows c.loop-t.invariant (not-true _ c.loop-t-test.true) in
-    ((_, k.m, k.holds, read_whole c.read_piece.ensures c.in-Whole.is), not-true _ c.loop-t-test.true, c.requires.0)
-
-pub loop-t-smaller : goal.loop-t-smaller
-loop-t-smaller c =
-    let k = knows c.loop-t.invariant (not-true _ c.loop-t-test.true) in
-    let st = read_whole c.read_piece.ensures c.in-Whole.is in
-    ahead_less c.loop-t.t (not-true _ c.loop-t-test.true) (goes_on_lem st) st.within (c.turn-t.ensures _ k.m k.holds st)
-
-pub loop-t-preserved : goal.loop-t-preserved
-loop-t-preserved c =
-    let k = knows c.loop-t.invariant (not-true _ c.loop-t-test.true) in
-    let st = read_whole c.read_piece.ensures c.in-Whole.is in
-    pass_turn k st (c.turn-t.auto.table ∙ c.loop-t.invariant.room) (c.turn-t.ensures _ k.m k.holds st)
-
-pub shape_of-table : goal.shape_of-table
-shape_of-table c = c.loop-t.invariant.room ∙ sym c.requires.1
+pub loop-piece-preserved : goal.loop-piece-preserved
+loop-piece-preserved c =
+    let k = c.loop-piece.invariant in
+    let st = read_whole c.read_piece.ensures c.in-Some.is in
+    pass_more k st (rw c.in_ok-t.was at (c.turn.ensures _ k.m k.holds st))
 
 pub returns : goal.returns
-returns c = pass_over c.loop-t.invariant (not-false _ c.loop-t-test.false)
+returns c = pass_end c.loop-piece.invariant (read_cut c.read_piece.ensures c.in_default.is)

@@ -1,27 +1,24 @@
 -- `names_salvage::piece::read_piece` meets its contract: the first space ends the mode's text, the first NUL behind it the name, and the id follows; each test is one of the definition's. Assumes nothing.
-use native.Mathlib.Omega.{arith}
-use Rattle.names_salvage.proofs.PieceLaws.{at_end, no_space, no_nul, no_id, whole}
+use mathlib.Core.Path.{refl}
+use Rattle.names_salvage.proofs.PieceLaws.{no_space, no_nul, no_id, whole}
 use Rattle.names_salvage.proofs.piece.read_piece.Goals as goal
 
-pub returns-then-raw-at : goal.returns-then-raw-at
-returns-then-raw-at c = record { is = at_end _ _ _ c.if-raw-at.true }
-
-pub returns-then-raw-at-2 : goal.returns-then-raw-at-2
-returns-then-raw-at-2 c =
+pub returns-in_err-mode_len : goal.returns-in_err-mode_len
+returns-in_err-mode_len c =
     let a = c.args in
-    record { is = no_space a.raw.now a.at a.width c.index_of-m.ensures c.after.ensures c.if-raw-at-2.true }
+    record { is = rw c.from_residual.ensures (no_space a.raw.now a.at a.width c.after-entry.ensures c.in_err-mode_len.ensures) }
 
-pub returns-then-raw-name_at : goal.returns-then-raw-name_at
-returns-then-raw-name_at c =
+pub returns-in_err-name_len : goal.returns-in_err-name_len
+returns-in_err-name_len c =
     let a = c.args in
-    record { is = no_nul a.raw.now a.at a.width c.index_of-m.ensures c.after.ensures c.index_of-n.ensures c.after-2.ensures (omega arith) c.if-raw-name_at.true }
+    record { is = rw c.from_residual-in_err-name_len.ensures (no_nul a.raw.now a.at a.width c.after-entry.ensures c.in_ok-mode_len.ensures c.after-named.ensures c.in_err-name_len.ensures) }
 
-pub returns-then-raw-id_at : goal.returns-then-raw-id_at
-returns-then-raw-id_at c =
+pub returns-then-id-width : goal.returns-then-id-width
+returns-then-id-width c =
     let a = c.args in
-    record { is = no_id a.raw.now a.at a.width c.index_of-m.ensures c.after.ensures c.index_of-n.ensures c.after-2.ensures (omega arith) (omega arith) c.if-raw-id_at.true }
+    record { is = no_id a.raw.now a.at a.width c.after-entry.ensures c.in_ok-mode_len.ensures c.after-named.ensures c.in_ok-name_len.ensures c.after-id.ensures c.if-id-width.true }
 
 pub returns : goal.returns
 returns c =
     let a = c.args in
-    record { is = whole a.raw.now a.at a.width c.index_of-m.ensures c.after.ensures c.index_of-n.ensures c.after-2.ensures (omega arith) (omega arith) (omega arith) }
+    record { is = whole a.raw.now a.at a.width c.after-entry.ensures c.in_ok-mode_len.ensures c.after-named.ensures c.in_ok-name_len.ensures c.after-id.ensures c.if-id-width.false _ refl c.front.ensures c.front-2.ensures refl }
