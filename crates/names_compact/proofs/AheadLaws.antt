@@ -15,8 +15,8 @@ use Rattle.model.specs.Tree.{Tree, good_name}
 use Rattle.names.specs.Check.{size_of, Lower, plain, FitsIs}
 use Rattle.names.specs.Eight.{number, bytes_of, LowAt}
 use Rattle.names_compact.specs.Judge.{end_at, end_as, held_at, compact_tree, name_held, tree_before, Reached, Behind}
-use Rattle.names_compact.specs.declared.judge.End.{End}
-use Rattle.names_compact.specs.declared.judge.End.TheVariants.{To}
+use Rattle.std.specs.Prelude as code
+use Rattle.std.specs.Prelude.{Some}
 use Rattle.names.proofs.EightLaws.{lower_first, lower_at, number_same, low_take, tail_is, eight_more}
 use Rattle.names.proofs.FitLaws.{fit_apart, fit_first, check_begin, check_more, check_broken}
 use Rattle.names_compact.proofs.JudgeLaws.{Ends, compact_is, held_packs, read_ends, read_begins, read_name, read_reach, zero_is_tree}
@@ -141,7 +141,7 @@ pub behind_begin : (b : Bytes) (w prev x : ℕ) → Behind b w prev 0 x
 behind_begin b w prev x = record { back = λ h. absurd (omega arith); long = λ h. absurd (omega arith); short = λ h. absurd (omega arith) }
 
 -- One entry more: it is read, and r says whether it fits.
-module _ {b : Bytes} {w at prev n k : ℕ} (s : Reached b w at prev n k) (h : at < length b) {r : End} (er : end_as r ≡ end_at b w at) {next : ℕ} (e : r ≡ To next) where
+module _ {b : Bytes} {w at prev n k : ℕ} (s : Reached b w at prev n k) (h : at < length b) {r : code.Option ℕ} (er : end_as r ≡ end_at b w at) {next : ℕ} (e : r ≡ Some next) where
   module _ {ok : Bool} (fits : FitsIs (name_held b w prev at) (tree_before b prev at) (name_held b w at next) (eqb (get_or b at 0) 0) (held_at b w next) ok) where
     pub reach_more : {m : ℕ} → m ≡ length (name_held b w at next) → ok ≡ true → Reached b w next at (n + 1) (k + m)
     reach_more {m} em o =

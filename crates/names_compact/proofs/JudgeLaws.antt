@@ -21,8 +21,8 @@ use Rattle.names.specs.Check.{Wide, TreeSize, size_of}
 use Rattle.names_compact.specs.Compact.{kind_of, mode_at, packed, packed_all, unpack, Run}
 use Rattle.names_compact.specs.Judge.{end_at, end_as, entry_held, held_next, held_from, held_at, compact_tree}
 use Rattle.names_compact.proofs.CompactLaws.{mode_kind, wide_good, unpacked}
-use Rattle.names_compact.specs.declared.judge.End.{End}
-use Rattle.names_compact.specs.declared.judge.End.TheVariants.{To, Damaged}
+use Rattle.std.specs.Prelude as code
+use Rattle.std.specs.Prelude.{Some, None}
 use Rattle.names.proofs.FitLaws.{Begins}
 
 -- Where an entry ends.
@@ -149,11 +149,11 @@ zero_is_tree (suc (suc (suc zero))) = refl
 zero_is_tree (suc (suc (suc (suc k)))) = ne_eqb (suc (suc (suc (suc k)))) 0 (λ q. omega arith)
 
 -- what a reading of an entry tells
-module _ (b : Bytes) (w at : ℕ) {r : End} (er : end_as r ≡ end_at b w at) where
-  pub read_damaged : at < length b → r ≡ Damaged → held_at b w at ≡ none
+module _ (b : Bytes) (w at : ℕ) {r : code.Option ℕ} (er : end_as r ≡ end_at b w at) where
+  pub read_damaged : at < length b → r ≡ None → held_at b w at ≡ none
   read_damaged h e = held_damaged b w at h (sym er ∙ ap end_as e)
 
-  module _ {next : ℕ} (e : r ≡ To next) where
+  module _ {next : ℕ} (e : r ≡ Some next) where
     pub read_ends : Ends b w at next
     read_ends = ends b w at (sym er ∙ ap end_as e)
 

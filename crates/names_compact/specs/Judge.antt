@@ -1,5 +1,5 @@
 -- What the check of a tree in compact form says, and the entries that it finds in the bytes. Assumes nothing.
-use Rattle.std.specs.Prelude.{ℕ, zero, suc, ◌+◌, ◌-◌, ◌≤◌, ◌<◌, ◌≡◌, [], Bool, cond, ◌&&◌, eqb, leb, ltb, length, take, drop, get_or}
+use Rattle.std.specs.Prelude.{Option as Found, Some, None, ℕ, zero, suc, ◌+◌, ◌-◌, ◌≤◌, ◌<◌, ◌≡◌, [], Bool, cond, ◌&&◌, eqb, leb, ltb, length, take, drop, get_or}
 use Rattle.std.proofs.Math.Option.{Option, none, some}
 use Rattle.model.specs.Bytes.{Bytes, same}
 use Rattle.model.specs.Tree.{Entry, Tree}
@@ -7,16 +7,14 @@ use Rattle.model.specs.Raw.{more, if_good}
 use Rattle.names.specs.Check.{size_of, Checking}
 use Rattle.names_compact.specs.Compact.{mode_at, packed_all, unpack}
 use Rattle.names.specs.Eight.{number}
-use Rattle.names_compact.specs.declared.judge.End.{End}
-use Rattle.names_compact.specs.declared.judge.End.TheVariants.{To, Damaged}
 
 -- Where the entry at `at` ends, if its kind is one of the five and its bytes are there.
 unfoldable pub end_at : Bytes → ℕ → ℕ → Option ℕ
 end_at b w at = cond (ltb (get_or b at 0) 5 && leb (at + 2) (length b) && leb (at + 2 + w + get_or b (at + 1) 0) (length b)) (some (at + 2 + w + get_or b (at + 1) 0)) none
 
-abbrev pub end_as : End → Option ℕ
-end_as (To next) = some next
-end_as Damaged = none
+abbrev pub end_as : Found ℕ → Option ℕ
+end_as (Some next) = some next
+end_as None = none
 
 -- the entry at `at`
 abbrev pub entry_held : Bytes → ℕ → ℕ → Entry

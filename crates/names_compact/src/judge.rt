@@ -6,40 +6,32 @@ ghost use Rattle.names.specs.Eight.{number};
 ghost use Rattle.names_compact.specs.Judge.{end_as, end_at, held_at, compact_tree, name_held, tree_before, Behind, Reached};
 
 use names::neighbour::Standing;
-use names::order::Order;
-use names::tree::Checked;
-
-// Where the entry at a place ends, if it is whole.
-#[derive(Clone, Copy)]
-pub enum End {
-    To { next: usize },
-    Damaged,
-}
+use names::order::Key;
+use names::tree::Size;
+use std::cmp::Ordering;
 
 // Where the entry at `at` ends, if its kind is one of the five and its bytes are there.
-fn end_of(tree: &[u8], width: usize, at: usize) -> End
+fn end_of(tree: &[u8], width: usize, at: usize) -> Option<usize>
     ensures { end_as result ≡ end_at tree.now width at }
 {
     if tree.len() <= at {
-        return End::Damaged;
+        return None;
     }
     let left = tree.len() - at;
     if left < 2 {
-        return End::Damaged;
+        return None;
     }
     if left - 2 < width {
-        return End::Damaged;
+        return None;
     }
     let n = tree[at + 1] as usize;
     if left - 2 - width < n {
-        return End::Damaged;
+        return None;
     }
     if 4 < tree[at] {
-        return End::Damaged;
+        return None;
     }
-    End::To {
-        next: at + 2 + width + n,
-    }
+    Some(at + 2 + width + n)
 }
 
 // Whether the tree of the name is among the entries from `from` on, up to the first that comes after it.
@@ -48,19 +40,23 @@ fn has_twin(tree: &[u8], width: usize, from: usize, name: &[u8]) -> bool
 {
     let mut at = from;
     while at < tree.len() {
-        let End::To { next } = end_of(tree, width, at) else {
+        let Some(next) = end_of(tree, width, at) else {
             return true;
         };
         let a = at + 2 + width;
         let is_tree = tree[at] == 0;
-        match names::order::name_order(&tree[a..next], is_tree, name, true) {
-            Order::Less => {
+        let other = Key {
+            name: &tree[a..next],
+            tree: is_tree,
+        };
+        match names::order::name_order(other, Key { name, tree: true }) {
+            Ordering::Less => {
                 at = next;
             }
-            Order::Equal => {
+            Ordering::Equal => {
                 return true;
             }
-            Order::Greater => {
+            Ordering::Greater => {
                 return false;
             }
         }
@@ -81,7 +77,16 @@ fn may_follow(
     requires { plain prev.now ≡ true }
     ensures { FitsIs prev.now prev_tree name.now is_tree (held_at tree.now width next) result }
 {
-    match names::neighbour::step(prev, prev_tree, name, is_tree) {
+    match names::neighbour::step(
+        Key {
+            name: prev,
+            tree: prev_tree,
+        },
+        Key {
+            name,
+            tree: is_tree,
+        },
+    ) {
         Standing::Apart => true,
         Standing::Within => {
             if has_twin(tree, width, next, prev) {
@@ -155,7 +160,7 @@ fn run_on(tree: &[u8], width: usize, far: Far, first: u64) -> Far
     let mut bytes = far.bytes;
     let mut w = first;
     while at < tree.len() {
-        let End::To { next } = end_of(tree, width, at) else {
+        let Some(next) = end_of(tree, width, at) else {
             break;
         };
         let a = at + 2 + width;
@@ -246,7 +251,7 @@ fn head(tree: &[u8], width: usize, at: usize, next: usize) -> u64
 }
 
 // Whether the bytes are a well-formed tree in compact form, and how many entries and bytes of names it then has.
-pub fn judge(tree: &[u8], width: usize) -> Checked
+pub fn judge(tree: &[u8], width: usize) -> Option<Size>
     ensures { checked_as result ≡ size_of (compact_tree width tree.now) }
 {
     let mut far = Far {
@@ -260,11 +265,11 @@ pub fn judge(tree: &[u8], width: usize) -> Checked
         far = run_past(tree, width, far, w);
         let at = far.at;
         if at < tree.len() {
-            let End::To { next } = end_of(tree, width, at) else {
-                return Checked::Broken;
+            let Some(next) = end_of(tree, width, at) else {
+                return None;
             };
             if !goes_next(tree, width, far.prev, at, next) {
-                return Checked::Broken;
+                return None;
             }
             w = head(tree, width, at, next);
             let n = next - at - 2 - width;
@@ -276,8 +281,8 @@ pub fn judge(tree: &[u8], width: usize) -> Checked
             };
         }
     }
-    Checked::WellFormed {
+    Some(Size {
         entries: far.entries,
         name_bytes: far.bytes,
-    }
+    })
 }
