@@ -37,21 +37,7 @@ held_at b w at = held_from (suc (length b - at)) b w at
 unfoldable pub compact_tree : ℕ → Bytes → Option Tree
 compact_tree w b = cond (same b (packed_all (unpack w b))) (if_good w (some (unpack w b))) none
 
--- the name of the entry at `at`, which ends at `next`
-abbrev pub name_held : Bytes → ℕ → ℕ → ℕ → Bytes
-name_held b w at next = take (next - (at + 2 + w)) (drop (at + 2 + w) b)
-
--- whether the entry before the place `at` is a tree: it stands at `prev`, and none is before the first place
-unfoldable pub tree_before : Bytes → ℕ → ℕ → Bool
-tree_before b prev at = ltb 0 at && eqb (get_or b prev 0) 0
-
--- a check of the bytes has come to the place `at` past n entries with k bytes of names, the last of which stands at `prev`
-pub record Reached (b : Bytes) (w at prev n k : ℕ) : Type 0 where
-  pub back : 0 < at → prev + 2 + w ≤ at
-  pub checking : Checking (size_of (compact_tree w b)) (length b) (held_at b w at) at n k (name_held b w prev at) (tree_before b prev at)
-
--- x is what the first eight bytes of the name before the place say; no eight bytes say more than x where that name is shorter
-pub record Behind (b : Bytes) (w prev at x : ℕ) : Type 0 where
-  pub back : 0 < at → prev + 2 + w ≤ at
-  pub long : 0 < at → prev + 10 + w ≤ at → x ≡ number 0 (take 8 (drop (prev + 2 + w) b))
-  pub short : 0 < at → at < prev + 10 + w → x ≡ 18446744073709551615
+-- x is what the first eight bytes of the name say
+pub record Head (n : Bytes) (x : ℕ) : Type 0 where
+  pub long : 8 ≤ length n
+  pub is : x ≡ number 0 (take 8 n)
