@@ -53,7 +53,7 @@ pub struct Place {
 
 impl<'a> Tree<'a> {
     // Where the entry after the entry i starts, which starts at `at`.
-    fn next(self, at: usize, i: usize) -> usize
+    pub fn next(self, at: usize, i: usize) -> usize
         requires { (at ≡ offset self.width self.bytes.now i) × (i < length (unpack self.width self.bytes.now)) }
         ensures { result ≡ offset self.entry.width self.entry.bytes.now (i + 1) }
     {
@@ -70,19 +70,6 @@ impl<'a> Tree<'a> {
             a = self.next(a, j);
         }
         a
-    }
-
-    // The number of entries.
-    pub fn count(self) -> usize
-        ensures { result ≡ length (unpack self.entry.width self.entry.bytes.now) }
-    {
-        let mut a = 0;
-        let mut n = 0;
-        while a < self.bytes.len() {
-            a = self.next(a, n);
-            n += 1;
-        }
-        n
     }
 
     // The name of the entry i, which starts at `at`.
@@ -183,53 +170,6 @@ impl<'a> Tree<'a> {
             name: key.name,
             tree: !key.tree,
         })
-    }
-
-    // How long the raw form of the entry i is, which starts at `at`.
-    fn raw_entry_len(self, at: usize, i: usize) -> usize
-        requires { (at ≡ offset self.width self.bytes.now i) × (i < length (unpack self.width self.bytes.now)) }
-        ensures { result ≡ length (raw_entry (entry_at self.entry.width self.entry.bytes.now i)) }
-    {
-        let n = self.bytes[at + 1] as usize + self.width;
-        if self.bytes[at] == 0 { 7 + n } else { 8 + n }
-    }
-
-    // How long the raw form of the tree is.
-    pub fn raw_len(self) -> usize
-        requires { length self.bytes.now ≤ 4294967296 }
-        ensures { result ≡ length (raw_tree (unpack self.entry.width self.entry.bytes.now)) }
-    {
-        let mut a = 0;
-        let mut i = 0;
-        let mut n = 0;
-        while a < self.bytes.len() {
-            n += self.raw_entry_len(a, i);
-            a = self.next(a, i);
-            i += 1;
-        }
-        n
-    }
-
-    // Writes the raw form of the tree to the front of out, and says how long it is.
-    pub fn put_raw(self, out: &mut [u8]) -> usize
-        requires { length (raw_tree (unpack self.width self.bytes.now)) ≤ length out.old }
-        ensures value { result ≡ length (raw_tree (unpack self.entry.width self.entry.bytes.now)) }
-        ensures out_after { out.new ≡ splice out.old 0 (raw_tree (unpack self.entry.width self.entry.bytes.now)) }
-    {
-        let mut a = 0;
-        let mut i = 0;
-        let mut to = 0;
-        while a < self.bytes.len() {
-            let e = Entry {
-                kind: self.kind_at(a, i),
-                name: self.name_at(a, i),
-                id: self.id_at(a, i),
-            };
-            to = names::write::put_entry(out, to, e);
-            a = self.next(a, i);
-            i += 1;
-        }
-        to
     }
 }
 

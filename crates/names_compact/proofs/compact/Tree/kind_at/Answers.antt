@@ -1,16 +1,14 @@
--- `names_compact::compact::kind_at` meets its contract: the kind is the entry's first byte. Assumes nothing.
-use Rattle.names_compact.proofs.CompactLaws.{Mark, mark}
+-- `names_compact::compact::Tree::kind_at` meets its contract: the byte where the entry starts is that of its mode, which it alone stands for. Assumes nothing.
+use mathlib.Core.Path.{ap, ◌∙◌}
+use Rattle.names_compact.specs.Compact.{mode_at}
 use native.Mathlib.Omega.{arith}
-use Rattle.names_compact.proofs.compact.kind_at.Goals as goal
+use Rattle.names_compact.proofs.CompactLaws.{mark, mode_kind}
+use Rattle.names_compact.proofs.compact.Tree.kind_at.Goals as goal
 
-at-start : (c : goal.After-shared_slice_known-1-unread) → Mark c.args.width c.args.tree.now c.args.i c.args.at
-at-start c = mark c.args.width c.args.tree.now c.args.i c.args.at c.requires.0 c.requires.1 c.requires.2
-
-pub bounds-tree-at : goal.bounds-tree-at
-bounds-tree-at c = omega (arith, (at-start c).room)
-
-at-start-2 : (c : goal.After-shared_slice_known-1) → Mark c.args.width c.args.tree.now c.args.i c.args.at
-at-start-2 c = mark c.args.width c.args.tree.now c.args.i c.args.at c.requires.0 c.requires.1 c.requires.2
+pub bounds-self-at : goal.bounds-self-at
+bounds-self-at c =
+    let m = mark _ _ c.args.i c.args.at c.args.self.run c.requires.0 c.requires.1 in
+    omega (arith, m.room)
 
 pub returns : goal.returns
-returns c = (at-start-2 c).kind
+returns c = c.kind_of.ensures ∙ ap mode_at (mark _ _ c.args.i c.args.at c.args.self.run c.requires.0 c.requires.1).kind ∙ mode_kind _

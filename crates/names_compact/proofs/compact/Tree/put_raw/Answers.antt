@@ -1,37 +1,19 @@
--- `names_compact::compact::put_tree` meets its contract: the raw form of the entries so far stands at the front, and that of the others follows. Assumes nothing.
-use native.Mathlib.Omega.{arith}
-use Rattle.names_compact.proofs.CompactLaws.{walk_in, walk_at}
+-- `names_compact::compact::Tree::put_raw` meets its contract: the entries that were written are those that are not left, in their order. Assumes nothing.
+use mathlib.Core.Path.{◌∙◌}
 use Rattle.names_compact.proofs.CompactRawLaws.{write_begin, write_end, write_fits, write_more}
-use Rattle.names_compact.proofs.compact.put_tree.Goals as goal
+use Rattle.names_compact.proofs.compact.Tree.put_raw.Goals as goal
 
-pub loop-a-init : goal.loop-a-init
-loop-a-init c = write_begin _ _ _
+pub loop-e-init : goal.loop-e-init
+loop-e-init c = write_begin _ (c.into_iter-e-iterator.ensures.into_iter_gives ∙ c.entries-e-items.ensures)
 
-pub put_raw-to-requires : goal.put_raw-to-requires
-put_raw-to-requires c =
-    let l = c.loop-a.invariant in
-    (c.requires.0, l.walked.is, walk_in l.walked c.requires.0 c.loop-a-test.true, write_fits l c.requires.0 c.requires.2 c.loop-a-test.true)
+pub put_entry-to-requires : goal.put_entry-to-requires
+put_entry-to-requires c = write_fits c.loop-e.invariant c.requires c.in-Some.ensures.steps
 
-pub skip-a-requires : goal.skip-a-requires
-skip-a-requires c =
-    let l = c.loop-a.invariant in
-    (c.requires.0, c.requires.1, l.walked.is, omega (arith, walk_in l.walked c.requires.0 c.loop-a-test.true))
+pub loop-e-preserved : goal.loop-e-preserved
+loop-e-preserved c = write_more c.loop-e.invariant c.requires c.in-Some.ensures.steps c.put_entry-to.ensures.value c.put_entry-to.ensures.out_after
 
-pub overflow_add-i : goal.overflow_add-i
-overflow_add-i c = omega (arith, c.loop-a.invariant.walked.small, c.loop-a-test.true)
+pub returns-clause-value : goal.returns-clause-value
+returns-clause-value c = (write_end c.loop-e.invariant c.in-None.ensures.steps.0).0
 
-pub loop-a-smaller : goal.loop-a-smaller
-loop-a-smaller c =
-    let l = c.loop-a.invariant in
-    omega (arith, (walk_at l.walked c.requires.0 c.loop-a-test.true).next, c.skip-a.ensures, c.loop-a-test.true)
-
-pub loop-a-preserved : goal.loop-a-preserved
-loop-a-preserved c = write_more c.loop-a.invariant c.requires.0 c.requires.2 c.loop-a-test.true (c.put_raw-to.ensures.value, c.put_raw-to.ensures.out_after) c.skip-a.ensures
-
-pub shape_of-out : goal.shape_of-out
-shape_of-out c = c.loop-a.invariant.wrote.long
-
-pub returns : goal.returns
-returns c =
-    let old = write_end c.loop-a.invariant c.requires.0 c.loop-a-test.false in
-    record { value = old.0; out_after = old.1 }
+pub returns-clause-out_after : goal.returns-clause-out_after
+returns-clause-out_after c = (write_end c.loop-e.invariant c.in-None.ensures.steps.0).1

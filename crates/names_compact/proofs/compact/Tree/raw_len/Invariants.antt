@@ -1,10 +1,9 @@
-use Prim.Native.Nat.{◌-◌}
+use Prim.Native.Nat.{◌+◌}
+use mathlib.Core.Path.{◌≡◌}
 use lib.ListN.{length}
-use Rattle.names_compact.proofs.CompactRawLaws.{Summing}
-use Rattle.names_compact.proofs.compact.raw_len.Given as goal
+use Rattle.model.specs.Raw.{raw_tree}
+use Rattle.names_compact.specs.Compact.{unpack}
+use Rattle.names_compact.proofs.compact.Tree.raw_len.Given as goal
 
-abbrev pub invariant-loop-a : goal.invariant-loop-a
-invariant-loop-a l = Summing l.width l.tree l.a l.i l.n
-
-abbrev pub decreases-loop-a : goal.decreases-loop-a
-decreases-loop-a l = length l.tree - l.a
+abbrev pub invariant-loop-e : goal.invariant-loop-e
+invariant-loop-e l = l.n + length (raw_tree l.e-iterator) ≡ length (raw_tree (unpack l.fn.self.width l.fn.self.bytes.now))
