@@ -3,7 +3,9 @@ use Prim.Native.Nat.{ℕ, zero, suc, ◌+◌, ◌*◌, ◌≤◌, ◌<◌}
 use mathlib.Core.Path.{◌≡◌, refl, sym, ap, ◌∙◌, subst}
 use mathlib.Core.List.{[], ◌∷◌, ◌++◌, append_assoc, append-nil}
 use mathlib.Core.Option.{Option, none, some}
-use mathlib.Core.Bool.{true, ◌&&◌}
+use mathlib.Core.Bool.{Bool, true, false, ◌&&◌}
+use lib.Dec.{leb}
+use borrow.Author.Tests.{leb-true, leb-false}
 use native.Mathlib.Omega.{arith}
 use lib.Dec.{eqb}
 use lib.ListN.{length, take, drop, length-append}
@@ -68,16 +70,17 @@ pack_begin {w} {raw} {d} k =
     }
 
 module _ {w : ℕ} {raw d₀ d : Bytes} {at to : ℕ} (s : Packing w raw d₀ d at to) where
-  pub pack_end : length raw ≤ at → PackedAs w raw d
-  pack_end h =
-      let n : s.left ≡ [] = no_more raw w at s.left s.rest h in
-      let e : s.done ++ s.left ≡ s.done = ap (λ (l : Tree). s.done ++ l) n ∙ append-nil s.done in
-      let q : d ≡ packed_all s.done = s.wrote.done ∙ splice_whole d₀ (packed_all s.done) (s.room ∙ ap (λ (l : Tree). length (packed_all l)) e) in
-      record { is = λ t f. q ∙ ap packed_all (sym e ∙ some_inj (s.done ++ s.left) t (sym s.reads ∙ f)) }
-
-  module _ (h : at < length raw) {r : code.Option RawEntry} (er : entry_read r ≡ read_entry_at raw at w) where
-    pub pack_damaged : {A : Type 0} → r ≡ None → A
-    pack_damaged e = none_some s.left (sym (entries_damaged raw w at h (sym er ∙ ap entry_read e)) ∙ s.rest)
+  module _ {r : code.Option RawEntry} (er : entry_read r ≡ read_entry_at raw at w) where
+    pub pack_end : r ≡ None → PackedAs w raw d
+    pack_end e = go (leb (length raw) at) refl
+      where
+        go : (t : Bool) → leb (length raw) at ≡ t → PackedAs w raw d
+        go true h =
+            let n : s.left ≡ [] = no_more raw w at s.left s.rest (leb-true _ _ h) in
+            let l : s.done ++ s.left ≡ s.done = ap (λ (l : Tree). s.done ++ l) n ∙ append-nil s.done in
+            let q : d ≡ packed_all s.done = s.wrote.done ∙ splice_whole d₀ (packed_all s.done) (s.room ∙ ap (λ (l : Tree). length (packed_all l)) l) in
+            record { is = λ t f. q ∙ ap packed_all (sym l ∙ some_inj (s.done ++ s.left) t (sym s.reads ∙ f)) }
+        go false h = none_some s.left (sym (entries_damaged raw w at (leb-false _ _ h) (sym er ∙ ap entry_read e)) ∙ s.rest)
 
     module _ {read : RawEntry} (e : r ≡ Some read) where
       abbrev found : Found
@@ -89,8 +92,13 @@ module _ {w : ℕ} {raw d₀ d : Bytes} {at to : ℕ} (s : Packing w raw d₀ d 
       pub pack_reach : Reach raw w at found
       pack_reach = reach raw w (sym er ∙ ap entry_read e)
 
+      pack_here : at < length raw
+      pack_here =
+          let x = pack_reach in
+          omega (arith, x.forward, x.inside)
+
       others : (xs : Tree) × (entries_at raw w read.next ≡ some xs) × (x ∷ xs ≡ s.left)
-      others = more_inv x (entries_at raw w read.next) s.left (sym (entries_entry raw w at h (sym er ∙ ap entry_read e)) ∙ s.rest)
+      others = more_inv x (entries_at raw w read.next) s.left (sym (entries_entry raw w at pack_here (sym er ∙ ap entry_read e)) ∙ s.rest)
 
       good_all : good_entries w (x ∷ others.0) ≡ true
       good_all = ap (good_entries w) others.2 ∙ s.good

@@ -201,10 +201,7 @@ pub fn pack(dst: &mut [u8], raw: &[u8], width: usize)
 {
     let mut at = 0;
     let mut to = 0;
-    while at < raw.len() {
-        let Some(read) = names::raw::read_entry(raw, at, width) else {
-            return;
-        };
+    while let Some(read) = names::raw::read_entry(raw, at, width) {
         let e = Entry {
             kind: read.kind,
             name: names::part::between(raw, read.name_at, read.name_len),
