@@ -7,6 +7,7 @@ ghost use Rattle.model.specs.Tree.{as_kind, key as key_of};
 ghost use Rattle.model.specs.Search.{searched};
 ghost use Rattle.names.specs.Answers.{as_mode, as_ordering, entry};
 ghost use Rattle.names_compact.specs.Compact.{kind_of, mode_at, unpack, packed, Run, offset, entry_at, Tells, Finds, begun, Takes, PackedAs};
+ghost use Rattle.names_compact.specs.Entries.{shown};
 ghost use Rattle.names.specs.Splice.{splice};
 
 use names::mode::EntryKind;
@@ -52,24 +53,31 @@ pub struct Place {
 }
 
 impl<'a> Tree<'a> {
-    // Where the entry after the entry i starts, which starts at `at`.
-    pub fn next(self, at: usize, i: usize) -> usize
-        requires { (at ≡ offset self.width self.bytes.now i) × (i < length (unpack self.width self.bytes.now)) }
-        ensures { result ≡ offset self.entry.width self.entry.bytes.now (i + 1) }
-    {
-        at + 2 + self.width + self.bytes[at + 1] as usize
-    }
-
     // Where the entry m after the entry i starts, which starts at `at`.
     pub fn skip(self, at: usize, i: usize, m: usize) -> usize
         requires { (at ≡ offset self.width self.bytes.now i) × (i + m ≤ length (unpack self.width self.bytes.now)) }
         ensures { result ≡ offset self.entry.width self.entry.bytes.now (i + m) }
     {
         let mut a = at;
-        for j in i..i + m {
-            a = self.next(a, j);
+        for _ in 0..m {
+            a += 2 + self.width + self.bytes[a + 1] as usize;
         }
         a
+    }
+
+    // The entry i, which starts at `at`.
+    pub fn entry_at(self, at: usize, i: usize) -> Entry<'a>
+        requires { (at ≡ offset self.width self.bytes.now i) × (i < length (unpack self.width self.bytes.now)) }
+        ensures { shown result ≡ entry_at self.entry.width self.entry.bytes.now i }
+    {
+        let id = at + 2;
+        let name = id + self.width;
+        let next = name + self.bytes[at + 1] as usize;
+        Entry {
+            kind: kind_of(self.bytes[at]),
+            name: &self.bytes[name..next],
+            id: &self.bytes[id..name],
+        }
     }
 
     // The name of the entry i, which starts at `at`.
@@ -77,8 +85,7 @@ impl<'a> Tree<'a> {
         requires { (at ≡ offset self.width self.bytes.now i) × (i < length (unpack self.width self.bytes.now)) }
         ensures { result.now ≡ (entry_at self.entry.width self.entry.bytes.now i).name }
     {
-        let n = self.bytes[at + 1] as usize;
-        names::part::between(self.bytes, at + 2 + self.width, n)
+        self.entry_at(at, i).name
     }
 
     // The kind of the entry i, which starts at `at`.
@@ -86,26 +93,7 @@ impl<'a> Tree<'a> {
         requires { (at ≡ offset self.width self.bytes.now i) × (i < length (unpack self.width self.bytes.now)) }
         ensures { as_mode result ≡ (entry_at self.entry.width self.entry.bytes.now i).mode }
     {
-        kind_of(self.bytes[at])
-    }
-
-    // The id of the entry i, which starts at `at`.
-    pub fn id_at(self, at: usize, i: usize) -> &'a [u8]
-        requires { (at ≡ offset self.width self.bytes.now i) × (i < length (unpack self.width self.bytes.now)) }
-        ensures { result.now ≡ (entry_at self.entry.width self.entry.bytes.now i).id }
-    {
-        names::part::between(self.bytes, at + 2, self.width)
-    }
-
-    // The key of the entry i, which starts at `at`.
-    fn key_at(self, at: usize, i: usize) -> Key<'a>
-        requires { (at ≡ offset self.width self.bytes.now i) × (i < length (unpack self.width self.bytes.now)) }
-        ensures { as_kind result.tree result.name.now ≡ key_of (entry_at self.entry.width self.entry.bytes.now i) }
-    {
-        Key {
-            name: self.name_at(at, i),
-            tree: self.kind_at(at, i).is_tree(),
-        }
+        self.entry_at(at, i).kind
     }
 
     // Searches a name among the entries by halving, in file order or in tree order: where it is, else where it would stand.
@@ -119,12 +107,14 @@ impl<'a> Tree<'a> {
         while len > 0 {
             let half = len / 2;
             let middle = self.skip(at, index, half);
-            let order = names::order::name_order(key, self.key_at(middle, index + half));
+            let e = self.entry_at(middle, index + half);
+            let other = Key {
+                name: e.name,
+                tree: e.kind.is_tree(),
+            };
             compared += 1;
-            match order {
-                Ordering::Less => {
-                    len = half;
-                }
+            match names::order::name_order(key, other) {
+                Ordering::Less => len = half,
                 Ordering::Equal => {
                     return Ok(Place {
                         index: index + half,
@@ -133,7 +123,7 @@ impl<'a> Tree<'a> {
                     });
                 }
                 Ordering::Greater => {
-                    at = self.next(middle, index + half);
+                    at = self.skip(middle, index + half, 1);
                     index += half + 1;
                     len -= half + 1;
                 }

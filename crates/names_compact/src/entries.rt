@@ -45,21 +45,15 @@ impl<'a> Iterator for Entries<'a> {
 impl<'a> Tree<'a> {
     // The first entry and the tree of the others.
     pub fn split_first(self) -> Option<(Entry<'a>, Tree<'a>)>
-        ensures first {
-            IfSome result (λ p. unpack self.entry.width self.entry.bytes.now ≡ entry p.0.kind p.0.name.now p.0.id.now ∷ unpack p.1.width p.1.bytes.now)
-        }
+        ensures first { IfSome result (λ p. unpack self.entry.width self.entry.bytes.now ≡ entry p.0.kind p.0.name.now p.0.id.now ∷ unpack p.1.width p.1.bytes.now) }
         ensures width { IfSome result (λ p. p.1.width ≡ self.entry.width) }
         ensures empty { IfNone result (unpack self.entry.width self.entry.bytes.now ≡ []) }
     {
         if self.bytes.is_empty() {
             return None;
         }
-        let first = Entry {
-            kind: self.kind_at(0, 0),
-            name: self.name_at(0, 0),
-            id: self.id_at(0, 0),
-        };
-        let next = self.next(0, 0);
+        let first = self.entry_at(0, 0);
+        let next = self.skip(0, 0, 1);
         let others = Tree {
             bytes: &self.bytes[next..],
             width: self.width,
