@@ -3,13 +3,13 @@ use Prim.Native.Nat.{ℕ, ◌+◌, ◌≤◌, ◌<◌}
 use mathlib.Core.Path.{◌≡◌, refl, sym, ap, ◌∙◌}
 use mathlib.Core.List.{[]}
 use mathlib.Core.Bool.{Bool, true, false}
-use mathlib.Core.Option.{Option, some, none}
+use mathlib.Core.Option.{some, none}
 use native.Mathlib.Omega.{arith}
 use lib.ListN.{length, take, drop, get_or}
 use lib.Seq.{take-take}
 use Rattle.model.specs.Bytes.{Bytes}
-use Rattle.model.specs.Tree.{Tree, is_tree, good_name}
-use Rattle.names.specs.Check.{TreeSize, size_of, Lower, plain, FitsIs, Checking}
+use Rattle.model.specs.Tree.{is_tree, good_name}
+use Rattle.names.specs.Check.{size_of, Lower, plain, FitsIs, Checking}
 use Rattle.names.specs.Eight.{number, bytes_of, LowAt}
 use Rattle.names_compact.specs.Judge.{end_at, entry_held, held_at, compact_tree, Head}
 use Rattle.names.proofs.EightLaws.{lower_first, lower_at, number_same, eight_more}

@@ -16,7 +16,7 @@ use Rattle.model.proofs.Basics.{none_some, some_inj, and_left, and_right}
 use Rattle.model.proofs.RawLaws.{more_inv, well_entries, read_only}
 use Rattle.names.specs.Answers.{as_mode, entry_read, checked_as, entry}
 use Rattle.names.specs.Check.{TreeSize, size_of}
-use Rattle.names_compact.specs.Compact.{kind_of, packed, packed_all, Takes, PackedAs}
+use Rattle.names_compact.specs.Compact.{packed, packed_all, Takes, PackedAs}
 use Rattle.names.specs.Places.{Found, read_entry_at, entry_found, entries_at}
 use Rattle.names.specs.Splice.{splice}
 use Rattle.names.specs.declared.raw.RawEntry.{RawEntry}

@@ -1,10 +1,9 @@
 -- What the check of a tree in compact form says, and the entries that it finds in the bytes. Assumes nothing.
-use Rattle.std.specs.Prelude.{Option as Found, Some, None, ℕ, zero, suc, ◌+◌, ◌-◌, ◌≤◌, ◌<◌, ◌≡◌, [], Bool, cond, ◌&&◌, eqb, leb, ltb, length, take, drop, get_or}
+use Rattle.std.specs.Prelude.{Option as Found, Some, None, ℕ, zero, suc, ◌+◌, ◌-◌, ◌≤◌, ◌≡◌, [], cond, ◌&&◌, leb, ltb, length, take, drop, get_or}
 use Rattle.std.proofs.Math.Option.{Option, none, some}
 use Rattle.model.specs.Bytes.{Bytes, same}
 use Rattle.model.specs.Tree.{Entry, Tree}
 use Rattle.model.specs.Raw.{more, if_good}
-use Rattle.names.specs.Check.{size_of, Checking}
 use Rattle.names_compact.specs.Compact.{mode_at, packed_all, unpack}
 use Rattle.names.specs.Eight.{number}
 

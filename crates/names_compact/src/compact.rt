@@ -23,6 +23,7 @@ pub fn kind_byte(kind: EntryKind) -> u8
 }
 
 // The kind that a byte stands for.
+// Stays: EntryKind is a type of `names`, for which this crate cannot write a From<u8>.
 pub fn kind_of(byte: u8) -> EntryKind
     ensures { as_mode result ≡ mode_at byte }
 {

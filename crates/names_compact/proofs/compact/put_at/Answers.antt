@@ -1,12 +1,10 @@
 -- `names_compact::compact::put_at` meets its contract: three writes, one behind the other, are one write of the whole. Assumes nothing.
-use mathlib.Core.Path.{◌≡◌, ap, ◌∙◌}
+use mathlib.Core.Path.{ap, ◌∙◌}
 use mathlib.Core.List.{[], ◌∷◌, append_assoc}
 use native.Mathlib.Omega.{arith}
 use lib.ListN.{length, length-append}
-use Rattle.names.specs.Answers.{as_mode, entry}
 use Rattle.names.specs.Splice.{splice}
 use Rattle.names.proofs.WriteLaws.{wrote, wrote_more}
-use Rattle.names_compact.specs.Compact.{kind_of, packed}
 use Rattle.names_compact.proofs.compact.put_at.Goals as goal
 
 pub returns-clause-out_after : goal.returns-clause-out_after

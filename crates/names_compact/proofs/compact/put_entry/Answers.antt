@@ -1,5 +1,5 @@
 -- `names_compact::compact::put_entry` meets its contract: 321 bytes have room for every entry, which stands at their front. Assumes nothing.
-use lib.ListN.{length, take, length-append}
+use lib.ListN.{length, take}
 use mathlib.Core.Path.{◌≡◌, ap, ◌∙◌}
 use native.Mathlib.Omega.{arith}
 use Rattle.names.specs.Answers.{entry}

@@ -1,7 +1,7 @@
 -- `names_compact::judge::has_twin` meets its contract: every entry passed comes before the twin, so the first that does not decides. Assumes nothing.
 use mathlib.Core.Path.{◌∙◌}
 use native.Mathlib.Omega.{arith}
-use Rattle.names.proofs.FitLaws.{twin_begin, twin_less, twin_equal, twin_greater}
+use Rattle.names.proofs.FitLaws.{twin_less, twin_equal, twin_greater}
 use Rattle.names_compact.proofs.JudgeLaws.{ends, read_whole, read_over, whole_begins, whole_key}
 use Rattle.names_compact.proofs.judge.has_twin.Goals as goal
 

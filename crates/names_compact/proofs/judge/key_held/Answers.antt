@@ -1,6 +1,6 @@
 -- `names_compact::judge::key_held` meets its contract: the name ends where the entry does, and a kind of 0 is a tree's. Assumes nothing.
 use native.Mathlib.Omega.{arith}
-use Rattle.names_compact.proofs.JudgeLaws.{Ends, ends, whole_name, whole_short, zero_is_tree}
+use Rattle.names_compact.proofs.JudgeLaws.{ends, whole_name, whole_short, zero_is_tree}
 use Rattle.names_compact.proofs.judge.key_held.Goals as goal
 
 pub overflow_add-result : goal.overflow_add-result

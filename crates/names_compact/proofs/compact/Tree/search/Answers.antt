@@ -1,6 +1,6 @@
 -- `names_compact::compact::Tree::search` meets its contract: each turn is one of the definition's halving, on the same part of the entries, with the place of its first. Assumes nothing.
 use Rattle.names_compact.proofs.CompactSearchLaws.{seek_all, seek_low, seek_high, seek_hit, seek_none, seek_moved}
-use Rattle.model.specs.Bytes.{Bytes, cmp}
+use Rattle.model.specs.Bytes.{cmp}
 use Rattle.model.specs.Tree.{as_kind, key}
 use Rattle.names.specs.Answers.{as_ordering}
 use mathlib.Core.Path.{refl, sym, ap, ◌∙◌}

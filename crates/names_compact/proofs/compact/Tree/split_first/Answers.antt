@@ -1,7 +1,7 @@
 -- `names_compact::compact::Tree::split_first` meets its contract: where there are bytes there is an entry, and behind it stands the run of the others. Assumes nothing.
 use mathlib.Core.Path.{◌≡◌, sym, ap, ◌∙◌}
 use mathlib.Core.List.{◌∷◌}
-use mathlib.Core.Bool.{Bool, false}
+use mathlib.Core.Bool.{false}
 use Prim.Native.Nat.{ℕ, ◌-◌, ◌<◌}
 use native.Mathlib.Omega.{arith}
 use lib.Dec.{eqb}
@@ -9,7 +9,7 @@ use lib.ListN.{length, take, drop, length-drop}
 use lib.Seq.{take-length}
 use borrow.Author.Tests.{eqb-true, eqb-false}
 use Rattle.model.specs.Bytes.{Bytes}
-use Rattle.model.specs.Tree.{Entry, Tree}
+use Rattle.model.specs.Tree.{Entry}
 use Rattle.names_compact.specs.Compact.{unpack}
 use Rattle.names_compact.proofs.CompactLaws.{run_empty, run_begins, run_others, run_first, mark}
 use Rattle.names_compact.proofs.compact.Tree.split_first.Goals as goal
