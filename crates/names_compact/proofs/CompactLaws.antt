@@ -9,7 +9,7 @@ use lib.Dec.{eqb, leb, ltb}
 use borrow.Author.Tests.{eqb-true, ltb-true, ltb-false, leb-true}
 use native.Mathlib.Numerals.{add-one}
 use lib.ListN.{length, take, drop, get_or, length-append}
-use lib.Seq.{take_at, drop_at, get_or_at, split_at, take-suc, take-length}
+use lib.Seq.{take_at, drop_at, get_or_at, split_at, drop-cons, take-suc, take-length}
 use Rattle.model.proofs.Basics.{and_left, and_right}
 use Rattle.model.specs.Bytes.{Bytes, has, is_nil}
 use Rattle.model.specs.Tree.{Mode, TREE, BLOB, EXEC, LINK, COMMIT, is_tree, Entry, Tree, good_name, good_entries, name_bytes}
@@ -220,3 +220,46 @@ zero_tree BLOB = refl
 zero_tree EXEC = refl
 zero_tree LINK = refl
 zero_tree COMMIT = refl
+
+-- a run without bytes holds nothing
+pub run_empty : (w : ℕ) (b : Bytes) → length b ≡ 0 → unpack w b ≡ []
+unfolding unpack unpack_in
+run_empty w [] e = refl
+run_empty w (x ∷ b) e = absurd (omega arith)
+
+-- the first entry of a run, and the run of the others
+module _ (w : ℕ) (b : Bytes) (r : Run w b) (h : 0 < length b) where
+  run_some : 0 < length (unpack w b)
+  run_some = offset_before w b 0 r (omega arith) (omega (arith, offset_zero w b))
+
+  pub run_begins : (0 ≡ offset w b 0) × (0 < length (unpack w b))
+  run_begins = (sym (offset_zero w b), run_some)
+
+  abbrev others : Tree
+  others = drop 1 (unpack w b)
+
+  first_others : unpack w b ≡ entry_at w b 0 ∷ others
+  first_others = drop-cons (unpack w b) 0 blank run_some
+
+  others_good : good_entries w others ≡ true
+  others_good =
+      let g : good_entries w (entry_at w b 0 ∷ others) ≡ true = ap (good_entries w) (sym first_others) ∙ r.good in
+      and_right (good_name (entry_at w b 0).name && eqb (length (entry_at w b 0).id) w) (good_entries w others) g
+
+  module _ {next : ℕ} (en : next ≡ offset w b (0 + 1)) where
+    others_packed : drop next b ≡ packed_all others
+    others_packed =
+        let x = here w b 0 r run_some in
+        let e = entry_at w b 0 in
+        let now : b ≡ packed e ++ packed_all others = r.bytes ∙ ap packed_all first_others ∙ packed_cons e others in
+        ap (drop next) now ∙ drop_at (packed e) (packed_all others) next (omega (arith, en, x.next, offset_zero w b, packed_length w e x.wide))
+
+    module _ {d : Bytes} (ed : d ≡ drop next b) where
+      others_held : unpack w d ≡ others
+      others_held = ap (unpack w) (ed ∙ others_packed) ∙ unpacked w others (wide_good w others others_good)
+
+      pub run_others : Run w d
+      run_others = record { bytes = ed ∙ others_packed ∙ ap packed_all (sym others_held); good = ap (good_entries w) others_held ∙ others_good }
+
+      pub run_first : unpack w b ≡ entry_at w b 0 ∷ unpack w d
+      run_first = first_others ∙ ap (λ (t : Tree). entry_at w b 0 ∷ t) (sym others_held)

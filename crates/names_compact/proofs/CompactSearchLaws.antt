@@ -1,6 +1,5 @@
 -- Laws of the halving search: what is left to search decides. Assumes nothing.
 use mathlib.Core.Path.{◌≡◌, refl, sym, ap, ap₂, ◌∙◌}
-use mathlib.Core.Bool.{true, false}
 use mathlib.Core.List.{List, [], ◌∷◌, ◌++◌}
 use Prim.Native.Nat.{ℕ, zero, suc, ◌+◌, ◌-◌, ◌/◌, ◌≤◌, ◌<◌, Ordering}
 use native.Mathlib.Omega.{arith}
@@ -10,6 +9,7 @@ use Rattle.model.specs.Bytes.{Bytes, cmp, by}
 use Rattle.model.specs.Tree.{Entry, Tree, key}
 use Rattle.model.specs.Search.{Spot, hit, miss, Searched, further, past_by, counted, at_middle, halving, searched}
 use Rattle.model.proofs.SearchLaws.{half_length}
+use Rattle.std.specs.Prelude.{Ok, Err}
 use Rattle.names_compact.specs.Compact.{packed_all, unpack, Run, offset, blank, entry_at, Tells}
 
 module _ {A : Type 0} (key : A → Bytes) where
@@ -139,7 +139,7 @@ module _ {w : ℕ} {b k : Bytes} {len lo at c : ℕ} (s : Seeking w b k len lo a
             ∙ ap (λ (z : Tree). tallied (c + 1) (past_by (lo + m + 1) (searched key k z))) high_part;
       }
 
-  pub seek_hit : (a : ℕ) → a ≡ offset w b (lo + m) → Ordering.eq ≡ cmp k (key x) → Tells w b (searched key k t) (record { found = true; index = lo + m; at = a; compared = c + 1 })
+  pub seek_hit : (a : ℕ) → a ≡ offset w b (lo + m) → Ordering.eq ≡ cmp k (key x) → Tells w b (searched key k t) (Ok (record { index = lo + m; at = a; compared = c + 1 }))
   seek_hit a e o =
       let q : searched key k t ≡ record { spot = hit (lo + m); count = c + 1 } = by_case Ordering.eq (sym o) in
       record {
@@ -149,7 +149,7 @@ module _ {w : ℕ} {b k : Bytes} {len lo at c : ℕ} (s : Seeking w b k len lo a
         count = sym (ap (λ (z : Searched). z.count) q);
       }
 
-none_left : (len w : ℕ) (b k : Bytes) (lo at c : ℕ) → Seeking w b k len lo at c → len ≤ 0 → Tells w b (searched key k (unpack w b)) (record { found = false; index = lo; at = at; compared = c })
+none_left : (len w : ℕ) (b k : Bytes) (lo at c : ℕ) → Seeking w b k len lo at c → len ≤ 0 → Tells w b (searched key k (unpack w b)) (Err (record { index = lo; at = at; compared = c }))
 none_left zero w b k lo at c s h =
     record {
       spot = ap miss (let q : lo ≡ lo + 0 = omega arith in q) ∙ sym (ap (λ (z : Searched). z.spot) s.rest);
@@ -159,7 +159,7 @@ none_left zero w b k lo at c s h =
     }
 none_left (suc len) w b k lo at c s h = absurd (omega arith)
 
-pub seek_none : {w : ℕ} {b k : Bytes} {len lo at c : ℕ} → Seeking w b k len lo at c → len ≤ 0 → Tells w b (searched key k (unpack w b)) (record { found = false; index = lo; at = at; compared = c })
+pub seek_none : {w : ℕ} {b k : Bytes} {len lo at c : ℕ} → Seeking w b k len lo at c → len ≤ 0 → Tells w b (searched key k (unpack w b)) (Err (record { index = lo; at = at; compared = c }))
 seek_none {w = w} {b = b} {k = k} {len = len} {lo = lo} {at = at} {c = c} s h = none_left len w b k lo at c s h
 
 -- there are no more entries than bytes

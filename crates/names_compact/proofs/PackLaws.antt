@@ -3,7 +3,9 @@ use Prim.Native.Nat.{ℕ, zero, suc, ◌+◌, ◌*◌, ◌≤◌, ◌<◌}
 use mathlib.Core.Path.{◌≡◌, refl, sym, ap, ◌∙◌, subst}
 use mathlib.Core.List.{[], ◌∷◌, ◌++◌, append_assoc, append-nil}
 use mathlib.Core.Option.{Option, none, some}
-use mathlib.Core.Bool.{true, ◌&&◌}
+use mathlib.Core.Bool.{Bool, true, false, ◌&&◌}
+use lib.Dec.{leb}
+use borrow.Author.Tests.{leb-true, leb-false}
 use native.Mathlib.Omega.{arith}
 use lib.Dec.{eqb}
 use lib.ListN.{length, take, drop, length-append}
@@ -12,17 +14,15 @@ use Rattle.model.specs.Tree.{Entry, Tree, good_name, good_entries, name_bytes}
 use Rattle.model.specs.Raw.{read_tree}
 use Rattle.model.proofs.Basics.{none_some, some_inj, and_left, and_right}
 use Rattle.model.proofs.RawLaws.{more_inv, well_entries, read_only}
-use Rattle.names.specs.Answers.{as_mode, entry_read, checked_as}
+use Rattle.names.specs.Answers.{as_mode, entry_read, checked_as, entry}
 use Rattle.names.specs.Check.{TreeSize, size_of}
-use Rattle.names_compact.specs.Compact.{kind_of, packed, packed_all, Takes, PackedAs}
-use Rattle.names.specs.Places.{read_entry_at, entry_found, entries_at}
+use Rattle.names_compact.specs.Compact.{packed, packed_all, Takes, PackedAs}
+use Rattle.names.specs.Places.{Found, read_entry_at, entry_found, entries_at}
 use Rattle.names.specs.Splice.{splice}
-use Rattle.names.specs.declared.mode.EntryKind.{EntryKind}
-use Rattle.names.specs.declared.raw.EntryRead.{EntryRead}
-use Rattle.names.specs.declared.raw.EntryRead.TheVariants.{Entry as EntryAt, Damaged}
-use Rattle.names.specs.declared.tree.Checked.{Checked}
-use Rattle.names.specs.declared.tree.Checked.TheVariants.{WellFormed}
-use Rattle.names.proofs.CheckLaws.{found_of}
+use Rattle.names.specs.declared.raw.RawEntry.{RawEntry}
+use Rattle.names.specs.declared.tree.Size.{Size}
+use Rattle.std.specs.Prelude as code
+use Rattle.std.specs.Prelude.{Some, None}
 use Rattle.names_compact.proofs.CompactLaws.{name_short, wide_good, packed_append, packed_room, packed_one}
 use Rattle.names.proofs.EntriesLaws.{Reach, reach, entries_damaged, entries_entry}
 use Rattle.names.proofs.ReadLaws.{read_entries, no_more}
@@ -35,10 +35,10 @@ size_inv (some t) z e =
     let q = some_inj z (record { entries = length t; bytes = name_bytes t }) e in
     (t, refl, ap (λ (y : TreeSize). y.entries) q, ap (λ (y : TreeSize). y.bytes) q)
 
-pub takes_checked : {w : ℕ} {raw : Bytes} {r : Checked} → checked_as r ≡ size_of (read_tree w raw) → {entries bytes : ℕ} → r ≡ WellFormed entries bytes → (n : ℕ) → n ≡ entries * (2 + w) + bytes → Takes w raw n
-takes_checked {w} {raw} c {entries} {bytes} e n en =
-    let (t, f, a, b) = size_inv (read_tree w raw) (record { entries = entries; bytes = bytes }) (sym (ap checked_as e) ∙ c) in
-    record { tree = t; reads = f; room = en ∙ ap (λ (k : ℕ). k * (2 + w) + bytes) a ∙ ap (λ (k : ℕ). length t * (2 + w) + k) b }
+pub takes_checked : {w : ℕ} {raw : Bytes} {r : code.Option Size} → checked_as r ≡ size_of (read_tree w raw) → {size : Size} → r ≡ Some size → (n : ℕ) → n ≡ size.entries * (2 + w) + size.name_bytes → Takes w raw n
+takes_checked {w} {raw} c {size} e n en =
+    let (t, f, a, b) = size_inv (read_tree w raw) (record { entries = size.entries; bytes = size.name_bytes }) (sym (ap checked_as e) ∙ c) in
+    record { tree = t; reads = f; room = en ∙ ap (λ (k : ℕ). k * (2 + w) + size.name_bytes) a ∙ ap (λ (k : ℕ). length t * (2 + w) + k) b }
 
 -- of the tree, the entries `done` have been written to the front of d, which was d₀, and `left` stand from `at` on
 pub record Packing (w : ℕ) (raw d₀ d : Bytes) (at to : ℕ) : Type 0 where
@@ -70,26 +70,35 @@ pack_begin {w} {raw} {d} k =
     }
 
 module _ {w : ℕ} {raw d₀ d : Bytes} {at to : ℕ} (s : Packing w raw d₀ d at to) where
-  pub pack_end : length raw ≤ at → PackedAs w raw d
-  pack_end h =
-      let n : s.left ≡ [] = no_more raw w at s.left s.rest h in
-      let e : s.done ++ s.left ≡ s.done = ap (λ (l : Tree). s.done ++ l) n ∙ append-nil s.done in
-      let q : d ≡ packed_all s.done = s.wrote.done ∙ splice_whole d₀ (packed_all s.done) (s.room ∙ ap (λ (l : Tree). length (packed_all l)) e) in
-      record { is = λ t f. q ∙ ap packed_all (sym e ∙ some_inj (s.done ++ s.left) t (sym s.reads ∙ f)) }
+  module _ {r : code.Option RawEntry} (er : entry_read r ≡ read_entry_at raw at w) where
+    pub pack_end : r ≡ None → PackedAs w raw d
+    pack_end e = go (leb (length raw) at) refl
+      where
+        go : (t : Bool) → leb (length raw) at ≡ t → PackedAs w raw d
+        go true h =
+            let n : s.left ≡ [] = no_more raw w at s.left s.rest (leb-true _ _ h) in
+            let l : s.done ++ s.left ≡ s.done = ap (λ (l : Tree). s.done ++ l) n ∙ append-nil s.done in
+            let q : d ≡ packed_all s.done = s.wrote.done ∙ splice_whole d₀ (packed_all s.done) (s.room ∙ ap (λ (l : Tree). length (packed_all l)) l) in
+            record { is = λ t f. q ∙ ap packed_all (sym l ∙ some_inj (s.done ++ s.left) t (sym s.reads ∙ f)) }
+        go false h = none_some s.left (sym (entries_damaged raw w at (leb-false _ _ h) (sym er ∙ ap entry_read e)) ∙ s.rest)
 
-  module _ (h : at < length raw) {r : EntryRead} (er : entry_read r ≡ read_entry_at raw at w) where
-    pub pack_damaged : {A : Type 0} → r ≡ Damaged → A
-    pack_damaged e = none_some s.left (sym (entries_damaged raw w at h (sym er ∙ ap entry_read e)) ∙ s.rest)
+    module _ {read : RawEntry} (e : r ≡ Some read) where
+      abbrev found : Found
+      found = record { mode = as_mode read.kind; name = read.name_at; len = read.name_len; id = read.id_at; next = read.next }
 
-    module _ {kind : EntryKind} {name_at n id next : ℕ} (e : r ≡ EntryAt kind name_at n id next) where
       abbrev x : Entry
-      x = entry_found raw w (found_of kind name_at n id next)
+      x = entry_found raw w found
 
-      pub pack_reach : Reach raw w at (found_of kind name_at n id next)
+      pub pack_reach : Reach raw w at found
       pack_reach = reach raw w (sym er ∙ ap entry_read e)
 
-      others : (xs : Tree) × (entries_at raw w next ≡ some xs) × (x ∷ xs ≡ s.left)
-      others = more_inv x (entries_at raw w next) s.left (sym (entries_entry raw w at h (sym er ∙ ap entry_read e)) ∙ s.rest)
+      pack_here : at < length raw
+      pack_here =
+          let x = pack_reach in
+          omega (arith, x.forward, x.inside)
+
+      others : (xs : Tree) × (entries_at raw w read.next ≡ some xs) × (x ∷ xs ≡ s.left)
+      others = more_inv x (entries_at raw w read.next) s.left (sym (entries_entry raw w at pack_here (sym er ∙ ap entry_read e)) ∙ s.rest)
 
       good_all : good_entries w (x ∷ others.0) ≡ true
       good_all = ap (good_entries w) others.2 ∙ s.good
@@ -106,21 +115,18 @@ module _ {w : ℕ} {raw d₀ d : Bytes} {at to : ℕ} (s : Packing w raw d₀ d 
           let q = ap length packed_more ∙ length-append (packed_all s.done) (packed x) in
           omega (arith, p, q, s.room, s.wrote.next, s.wrote.long)
 
-      module _ {b : ℕ} {i l : Bytes} (eb : b ≡ kind_of (as_mode kind)) (ei : i ≡ take w (drop id raw)) (el : l ≡ take n (drop name_at raw)) where
-        is_packed : b ∷ length l ∷ (i ++ l) ≡ packed x
-        is_packed = rw (eb, ei, el)
+      module _ {i l : Bytes} (ei : i ≡ take w (drop read.id_at raw)) (el : l ≡ take read.name_len (drop read.name_at raw)) where
+        is_packed : packed (entry read.kind l i) ≡ packed x
+        is_packed = rw (ei, el)
 
-        long : length (packed x) ≡ 2 + length i + length l
-        long = ap length (sym is_packed) ∙ omega (arith, length-append i l)
+        pub pack_fits : to + length (packed (entry read.kind l i)) ≤ length d
+        pack_fits = omega (arith, x_fits, ap length is_packed)
 
-        pub pack_fits : (to + (2 + length i + length l) ≤ length d) × (length l ≤ 255)
-        pack_fits = (
-          omega (arith, x_fits, long),
-          rw el (name_short x.name (and_left (good_name x.name) (eqb (length x.id) w) (and_left (good_name x.name && eqb (length x.id) w) (good_entries w others.0) good_all))),
-        )
+        pub pack_short : length l ≤ 255
+        pack_short = rw el (name_short x.name (and_left (good_name x.name) (eqb (length x.id) w) (and_left (good_name x.name && eqb (length x.id) w) (good_entries w others.0) good_all)))
 
-        pub pack_more : {to' : ℕ} {d' : Bytes} → (to' ≡ to + (2 + length i + length l)) × (d' ≡ splice d to (b ∷ length l ∷ (i ++ l))) → Packing w raw d₀ d' next to'
-        pack_more {to'} {d'} k = record {
+        pub pack_more : {to' : ℕ} {d' : Bytes} → to' ≡ to + length (packed (entry read.kind l i)) → d' ≡ splice d to (packed (entry read.kind l i)) → Packing w raw d₀ d' read.next to'
+        pack_more {to'} {d'} et ed = record {
           done = s.done ++ (x ∷ []);
           left = others.0;
           reads = s.reads ∙ ap some one_more;
@@ -128,5 +134,5 @@ module _ {w : ℕ} {raw d₀ d : Bytes} {at to : ℕ} (s : Packing w raw d₀ d 
           rest = others.1;
           room = s.room ∙ ap (λ (t : Tree). length (packed_all t)) one_more;
           wrote = subst (λ (z : Bytes). Wrote d₀ 0 z d' to') (sym packed_more)
-              (wrote_more s.wrote (packed x) x_fits (omega (arith, k.0, long), k.1 ∙ ap (splice d to) is_packed));
+              (wrote_more s.wrote (packed x) x_fits (et ∙ ap (λ (z : Bytes). to + length z) is_packed, ed ∙ ap (splice d to) is_packed));
         }

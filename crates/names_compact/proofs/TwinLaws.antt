@@ -14,7 +14,8 @@ use Rattle.model.specs.Tree.{BLOB, is_tree, Entry, Tree, as_kind, key}
 use Rattle.model.proofs.ByteLaws.{same_not}
 use Rattle.model.proofs.MapLaws.{compare_eq, above_head}
 use Rattle.model.proofs.SearchLaws.{Right, halving_right, above_place, find_from_place}
-use Rattle.names_compact.specs.Compact.{unpack, blank, spot_of, Tells, begun, Finds}
+use Rattle.std.specs.Prelude.{Result, Err}
+use Rattle.names_compact.specs.Compact.{found_of, place_of, unpack, blank, spot_of, Tells, begun, Finds}
 use Rattle.names_compact.specs.declared.compact.Place.{Place}
 use Rattle.names.proofs.FollowLaws.{file_tree}
 
@@ -64,9 +65,9 @@ no_tree_lem n t i r R f =
     find_from_place key n t i r R a (file_key n) (as_kind true n) (file_tree n) ∙ none_first n (drop i t) (above_place key n t i r R a (file_key n)) f
 
 -- what the search of a tree in order says of the map
-pub told_right : (w : ℕ) (b k : Bytes) (r : Place) → Tells w b (searched key k (unpack w b)) r → rising key (unpack w b) ≡ true → (f : Bool) → r.found ≡ f → Right key k (unpack w b) (spot_of f r.index)
+pub told_right : (w : ℕ) (b k : Bytes) (r : Result Place Place) → Tells w b (searched key k (unpack w b)) r → rising key (unpack w b) ≡ true → (f : Bool) → found_of r ≡ f → Right key k (unpack w b) (spot_of f (place_of r).index)
 told_right w b k r s up f e =
-    subst (Right key k (unpack w b)) (sym s.spot ∙ ap (λ (z : Bool). spot_of z r.index) e) (halving_right key (length (unpack w b)) k (unpack w b) (omega arith) up)
+    subst (Right key k (unpack w b)) (sym s.spot ∙ ap (λ (z : Bool). spot_of z (place_of r).index) e) (halving_right key (length (unpack w b)) k (unpack w b) (omega arith) up)
 
 -- the entry at a place, if there is one
 pub begun_end : (n : Bytes) (t : Tree) (i : ℕ) → i ≡ length t → false ≡ begun n (drop i t)
@@ -78,14 +79,14 @@ pub begun_at_lem : (n : Bytes) (t : Tree) (i : ℕ) → i < length t → same (t
 begun_at_lem n t i h = sym (ap (begun n) (drop-cons t i blank h))
 
 -- what the place of a file that is not there says of the tree, and what the search says
-module _ (w : ℕ) (b n : Bytes) (r : Place) (up : rising key (unpack w b) ≡ true) where
-  pub twin_away : (t : Bool) → t ≡ false → Tells w b (searched key (as_kind t n) (unpack w b)) r → r.found ≡ false → begun n (drop r.index (unpack w b)) ≡ false → Finds w b (as_kind (not t) n) r
-  twin_away true z s e f = absurd (true≢false z)
-  twin_away false z s e f =
+module _ (w : ℕ) (b n : Bytes) (p : Place) (up : rising key (unpack w b) ≡ true) where
+  pub twin_away : (t : Bool) → t ≡ false → Tells w b (searched key (as_kind t n) (unpack w b)) (Err p) → begun n (drop p.index (unpack w b)) ≡ false → Finds w b (as_kind (not t) n) (Err p)
+  twin_away true z s f = absurd (true≢false z)
+  twin_away false z s f =
       record {
-        there = λ g. absurd (true≢false (sym g ∙ e));
-        nowhere = λ g. no_tree_lem n (unpack w b) r.index up (told_right w b n r s up false e) f;
+        there = λ g. absurd (true≢false (sym g));
+        nowhere = λ g. no_tree_lem n (unpack w b) p.index up (told_right w b n (Err p) s up false refl) f;
       }
 
-pub twin_sought : (w : ℕ) (b k : Bytes) (r : Place) → rising key (unpack w b) ≡ true → Tells w b (searched key k (unpack w b)) r → Finds w b k r
+pub twin_sought : (w : ℕ) (b k : Bytes) (r : Result Place Place) → rising key (unpack w b) ≡ true → Tells w b (searched key k (unpack w b)) r → Finds w b k r
 twin_sought w b k r up s = record { there = λ e. s; nowhere = λ e. (told_right w b k r s up false e).0 }

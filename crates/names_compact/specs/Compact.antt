@@ -1,5 +1,5 @@
 -- A tree as bytes: its entries end to end, each a kind, the length of its name, an id of w bytes and the name. Assumes nothing.
-use Rattle.std.specs.Prelude.{◌≡◌, ℕ, zero, suc, ◌+◌, ◌*◌, ◌≤◌, Bool, true, false, [], ◌∷◌, ◌++◌, length, take, drop, get_or}
+use Rattle.std.specs.Prelude.{◌≡◌, ℕ, zero, suc, ◌+◌, ◌*◌, ◌≤◌, Bool, true, false, [], ◌∷◌, ◌++◌, length, take, drop, get_or, Result, Ok, Err}
 use Rattle.std.proofs.Math.Option.{none, some}
 use Rattle.model.specs.Bytes.{Bytes, same}
 use Rattle.model.specs.Map.{find}
@@ -57,21 +57,30 @@ blank = record { mode = TREE; name = []; id = [] }
 abbrev pub entry_at : ℕ → Bytes → ℕ → Entry
 entry_at w b i = get_or (unpack w b) i blank
 
+-- whether a search found the key, and the place that it gives back
+abbrev pub found_of : Result Place Place → Bool
+found_of (Ok place) = true
+found_of (Err place) = false
+
+abbrev pub place_of : Result Place Place → Place
+place_of (Ok place) = place
+place_of (Err place) = place
+
 -- a place that a search gives back says what the model's search says, and where it is in the bytes
 abbrev pub spot_of : Bool → ℕ → Spot
 spot_of true i = hit i
 spot_of false i = miss i
 
-pub record Tells (w : ℕ) (b : Bytes) (s : Searched) (r : Place) : Type 0 where
-  pub spot : spot_of r.found r.index ≡ s.spot
-  pub within : r.index ≤ length (unpack w b)
-  pub start : r.at ≡ offset w b r.index
-  pub count : r.compared ≡ s.count
+pub record Tells (w : ℕ) (b : Bytes) (s : Searched) (r : Result Place Place) : Type 0 where
+  pub spot : spot_of (found_of r) (place_of r).index ≡ s.spot
+  pub within : (place_of r).index ≤ length (unpack w b)
+  pub start : (place_of r).at ≡ offset w b (place_of r).index
+  pub count : (place_of r).compared ≡ s.count
 
 -- a place that was found is where the search of the key finds it; and where none was, the key is not there
-pub record Finds (w : ℕ) (b k : Bytes) (r : Place) : Type 0 where
-  pub there : r.found ≡ true → Tells w b (searched key k (unpack w b)) r
-  pub nowhere : r.found ≡ false → find key k (unpack w b) ≡ none
+pub record Finds (w : ℕ) (b k : Bytes) (r : Result Place Place) : Type 0 where
+  pub there : found_of r ≡ true → Tells w b (searched key k (unpack w b)) r
+  pub nowhere : found_of r ≡ false → find key k (unpack w b) ≡ none
 
 -- the first of these entries has a name that begins with n
 abbrev pub begun : Bytes → Tree → Bool

@@ -1,22 +1,19 @@
 -- What the check of a tree in compact form says, and the entries that it finds in the bytes. Assumes nothing.
-use Rattle.std.specs.Prelude.{ℕ, zero, suc, ◌+◌, ◌-◌, ◌≤◌, ◌<◌, ◌≡◌, [], Bool, cond, ◌&&◌, eqb, leb, ltb, length, take, drop, get_or}
+use Rattle.std.specs.Prelude.{Option as Found, Some, None, ℕ, zero, suc, ◌+◌, ◌-◌, ◌≤◌, ◌≡◌, [], cond, ◌&&◌, leb, ltb, length, take, drop, get_or}
 use Rattle.std.proofs.Math.Option.{Option, none, some}
 use Rattle.model.specs.Bytes.{Bytes, same}
 use Rattle.model.specs.Tree.{Entry, Tree}
 use Rattle.model.specs.Raw.{more, if_good}
-use Rattle.names.specs.Check.{size_of, Checking}
 use Rattle.names_compact.specs.Compact.{mode_at, packed_all, unpack}
 use Rattle.names.specs.Eight.{number}
-use Rattle.names_compact.specs.declared.judge.End.{End}
-use Rattle.names_compact.specs.declared.judge.End.TheVariants.{To, Damaged}
 
 -- Where the entry at `at` ends, if its kind is one of the five and its bytes are there.
 unfoldable pub end_at : Bytes → ℕ → ℕ → Option ℕ
 end_at b w at = cond (ltb (get_or b at 0) 5 && leb (at + 2) (length b) && leb (at + 2 + w + get_or b (at + 1) 0) (length b)) (some (at + 2 + w + get_or b (at + 1) 0)) none
 
-abbrev pub end_as : End → Option ℕ
-end_as (To next) = some next
-end_as Damaged = none
+abbrev pub end_as : Found ℕ → Option ℕ
+end_as (Some next) = some next
+end_as None = none
 
 -- the entry at `at`
 abbrev pub entry_held : Bytes → ℕ → ℕ → Entry
@@ -39,21 +36,7 @@ held_at b w at = held_from (suc (length b - at)) b w at
 unfoldable pub compact_tree : ℕ → Bytes → Option Tree
 compact_tree w b = cond (same b (packed_all (unpack w b))) (if_good w (some (unpack w b))) none
 
--- the name of the entry at `at`, which ends at `next`
-abbrev pub name_held : Bytes → ℕ → ℕ → ℕ → Bytes
-name_held b w at next = take (next - (at + 2 + w)) (drop (at + 2 + w) b)
-
--- whether the entry before the place `at` is a tree: it stands at `prev`, and none is before the first place
-unfoldable pub tree_before : Bytes → ℕ → ℕ → Bool
-tree_before b prev at = ltb 0 at && eqb (get_or b prev 0) 0
-
--- a check of the bytes has come to the place `at` past n entries with k bytes of names, the last of which stands at `prev`
-pub record Reached (b : Bytes) (w at prev n k : ℕ) : Type 0 where
-  pub back : 0 < at → prev + 2 + w ≤ at
-  pub checking : Checking (size_of (compact_tree w b)) (length b) (held_at b w at) at n k (name_held b w prev at) (tree_before b prev at)
-
--- x is what the first eight bytes of the name before the place say; no eight bytes say more than x where that name is shorter
-pub record Behind (b : Bytes) (w prev at x : ℕ) : Type 0 where
-  pub back : 0 < at → prev + 2 + w ≤ at
-  pub long : 0 < at → prev + 10 + w ≤ at → x ≡ number 0 (take 8 (drop (prev + 2 + w) b))
-  pub short : 0 < at → at < prev + 10 + w → x ≡ 18446744073709551615
+-- x is what the first eight bytes of the name say
+pub record Head (n : Bytes) (x : ℕ) : Type 0 where
+  pub long : 8 ≤ length n
+  pub is : x ≡ number 0 (take 8 n)

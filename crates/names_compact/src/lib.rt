@@ -2,4 +2,5 @@
 #![tactic(auto)]
 
 pub mod compact;
+pub mod entries;
 pub mod judge;

@@ -1,23 +1,20 @@
--- `names_compact::compact::kind_byte` meets its contract: each of the five has its own byte. Assumes nothing.
+-- `names_compact::compact::kind_byte` meets its contract: the kinds are declared in the order of their bytes. Assumes nothing.
+use mathlib.Core.Path.{◌≡◌, refl}
+use denote.Enum.Declared.{tag_of}
+use Rattle.names.specs.Answers.{as_mode}
+use Rattle.names.specs.contracts.mode.EntryKind.{the_type}
+use Rattle.names.specs.declared.mode.EntryKind.{EntryKind}
+use Rattle.names.specs.declared.mode.EntryKind.TheVariants.{Tree, Blob, BlobExecutable, Link, Commit}
 use Rattle.names_compact.specs.Compact.{kind_of}
 use Rattle.names_compact.proofs.compact.kind_byte.Goals as goal
 
-pub returns-in-Tree : goal.returns-in-Tree
+tag_is : (k : EntryKind) → tag_of the_type k ≡ kind_of (as_mode k)
 unfolding kind_of
-returns-in-Tree c = rw c.in-Tree.is
+tag_is Tree = refl
+tag_is Blob = refl
+tag_is BlobExecutable = refl
+tag_is Link = refl
+tag_is Commit = refl
 
-pub returns-in-Blob : goal.returns-in-Blob
-unfolding kind_of
-returns-in-Blob c = rw c.in-Blob.is
-
-pub returns-in-BlobExecutable : goal.returns-in-BlobExecutable
-unfolding kind_of
-returns-in-BlobExecutable c = rw c.in-BlobExecutable.is
-
-pub returns-in-Link : goal.returns-in-Link
-unfolding kind_of
-returns-in-Link c = rw c.in-Link.is
-
-pub returns-in-Commit : goal.returns-in-Commit
-unfolding kind_of
-returns-in-Commit c = rw c.in-Commit.is
+pub returns : goal.returns
+returns c = tag_is c.args.kind

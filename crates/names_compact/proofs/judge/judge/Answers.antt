@@ -1,75 +1,43 @@
 -- `names_compact::judge::judge` meets its contract: the entries so far are well formed, whether a run or one careful step went over them, so those that are left decide. Assumes nothing.
+use mathlib.Core.Path.{ap, ◌∙◌}
+use lib.ListN.{length}
 use native.Mathlib.Omega.{arith}
-use Rattle.model.proofs.Basics.{not_true, not_false}
-use Rattle.names_compact.proofs.AheadLaws.{name_size, behind_begin, reach_begin, reach_more, reach_broken}
+use Rattle.names.specs.Answers.{checked_as}
 use Rattle.names.proofs.FitLaws.{check_end, check_damaged}
-use Rattle.names_compact.proofs.JudgeLaws.{read_damaged, read_ends, held_end}
+use Rattle.names_compact.proofs.AheadLaws.{size_same, reach_more, reach_broken}
+use Rattle.names_compact.proofs.JudgeLaws.{ends, read_whole, read_damaged, held_end}
 use Rattle.names_compact.proofs.judge.judge.Goals as goal
 
-pub loop-far-init : goal.loop-far-init
-loop-far-init c = (reach_begin _ _, λ h. behind_begin _ _ _ _)
+pub returns-in_err-next : goal.returns-in_err-next
+returns-in_err-next c =
+    let k = c.loop-check in
+    ap checked_as c.from_residual.ensures ∙ check_damaged k.check.reached (read_damaged _ _ _ c.end_of.ensures c.loop-check-test.true c.in_err-next.was) ∙ size_same k.invariant.tree k.invariant.width
 
-pub run_past-far-requires : goal.run_past-far-requires
-run_past-far-requires c = let i = c.loop-far.invariant in (i.0, i.1 c.loop-far-test.true)
+pub key_held-key-requires : goal.key_held-key-requires
+key_held-key-requires c = read_whole _ _ _ c.end_of.ensures c.in_ok-next.was
 
-pub returns-in_default : goal.returns-in_default
-returns-in_default c = check_damaged c.run_past-far.ensures.0.checking (read_damaged _ _ _ c.end_of.ensures c.if-at-tree.true c.in_default.is)
+pub returns-then-not-may_follow : goal.returns-then-not-may_follow
+returns-then-not-may_follow c =
+    let k = c.loop-check in
+    let e = c.key_held-key.ensures in
+    reach_broken _ _ k.check.reached (read_whole _ _ _ c.end_of.ensures c.in_ok-next.was) e.name e.tree c.may_follow.ensures c.if-not-may_follow.true ∙ size_same k.invariant.tree k.invariant.width
 
-pub goes_next-requires : goal.goes_next-requires
-goes_next-requires c =
-    let x = read_ends _ _ _ c.end_of.ensures c.in-To.is in
-    let s = c.run_past-far.ensures.0 in
-    (omega arith, x.inside, s.back, s.checking.clear)
+pub past-check-requires : goal.past-check-requires
+past-check-requires c =
+    let e = c.key_held-key.ensures in
+    reach_more _ _ c.loop-check.check.reached (read_whole _ _ _ c.end_of.ensures c.in_ok-next.was) e.name e.tree c.may_follow.ensures c.if-not-may_follow.false
 
-pub returns-then-not-goes_next : goal.returns-then-not-goes_next
-returns-then-not-goes_next c = reach_broken c.run_past-far.ensures.0 c.if-at-tree.true c.end_of.ensures c.in-To.is c.goes_next.ensures (not_true _ c.if-not-goes_next.true-raw)
+pub loop-check-smaller-in-Some : goal.loop-check-smaller-in-Some
+loop-check-smaller-in-Some c =
+    let x = ends _ _ _ (read_whole _ _ _ c.end_of.ensures c.in_ok-next.was) in
+    omega (arith, x.is, x.inside, c.past-check.ensures.at, ap length c.past-check.ensures.tree, c.run_on-check.ensures.on, ap length c.run_on-check.ensures.tree)
 
-pub head-w-requires : goal.head-w-requires
-head-w-requires c =
-    let x = read_ends _ _ _ c.end_of.ensures c.in-To.is in
-    (omega arith, x.inside)
-
-pub overflow_sub-n : goal.overflow_sub-n
-overflow_sub-n c =
-    let x = read_ends _ _ _ c.end_of.ensures c.in-To.is in
-    omega arith
-
-pub overflow_sub-n-then-at-tree : goal.overflow_sub-n-then-at-tree
-overflow_sub-n-then-at-tree c =
-    let x = read_ends _ _ _ c.end_of.ensures c.in-To.is in
-    omega arith
-
-pub overflow_sub-n-then-at-tree-2 : goal.overflow_sub-n-then-at-tree-2
-overflow_sub-n-then-at-tree-2 c =
-    let x = read_ends _ _ _ c.end_of.ensures c.in-To.is in
-    omega arith
-
-pub loop-far-preserved-then-at-tree : goal.loop-far-preserved-then-at-tree
-loop-far-preserved-then-at-tree c =
-    let x = read_ends _ _ _ c.end_of.ensures c.in-To.is in (
-      reach_more c.run_past-far.ensures.0 c.if-at-tree.true c.end_of.ensures c.in-To.is c.goes_next.ensures (name_size x)
-          (not_false _ c.if-not-goes_next.false-raw),
-      λ _. c.head-w.ensures,
-    )
-
-pub overflow_add-far : goal.overflow_add-far
-overflow_add-far c =
-    let x = read_ends _ _ _ c.end_of.ensures c.in-To.is in
-    let s = c.run_past-far.ensures.0.checking in
-    omega arith
-
-pub overflow_add-far-then-at-tree : goal.overflow_add-far-then-at-tree
-overflow_add-far-then-at-tree c =
-    let w = (loop-far-preserved-then-at-tree c).0.checking in
-    omega arith
-
-pub loop-far-smaller-then-at-tree : goal.loop-far-smaller-then-at-tree
-loop-far-smaller-then-at-tree c =
-    let x = read_ends _ _ _ c.end_of.ensures c.in-To.is in
-    omega (arith, c.run_past-far.ensures.1)
-
-pub loop-far-preserved : goal.loop-far-preserved
-loop-far-preserved c = (c.run_past-far.ensures.0, λ h. absurd (omega arith))
+pub loop-check-smaller : goal.loop-check-smaller
+loop-check-smaller c =
+    let x = ends _ _ _ (read_whole _ _ _ c.end_of.ensures c.in_ok-next.was) in
+    omega (arith, x.is, x.inside, c.past-check.ensures.at, ap length c.past-check.ensures.tree)
 
 pub returns : goal.returns
-returns c = check_end c.loop-far.invariant.0.checking (held_end _ _ _ c.loop-far-test.false)
+returns c =
+    let k = c.loop-check in
+    check_end k.check.reached (held_end _ _ _ c.loop-check-test.false) ∙ size_same k.invariant.tree k.invariant.width

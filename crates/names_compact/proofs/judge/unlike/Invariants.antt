@@ -3,7 +3,7 @@ use Rattle.names_compact.proofs.AheadLaws.{Together}
 use Rattle.names_compact.proofs.judge.unlike.Given as goal
 
 abbrev pub invariant-loop-i : goal.invariant-loop-i
-invariant-loop-i l = Together l.tree l.p l.a l.i
+invariant-loop-i l = Together l.a l.b l.i
 
 abbrev pub decreases-loop-i : goal.decreases-loop-i
 decreases-loop-i l = l.last - l.i
