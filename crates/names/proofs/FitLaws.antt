@@ -161,6 +161,10 @@ module _ {p : Bytes} {pt : Bool} {n : Bytes} {t : Bool} {later : Option Tree} {o
     pub fit_alone : b ≡ false → FitsIs p pt n t later true
     fit_alone h = record { may = λ q. inside.0; is = λ es q w. rw (inside.0, there es q w, h) }
 
+    -- so the search decides
+    pub fit_within : FitsIs p pt n t later (not b)
+    fit_within = record { may = λ q. inside.0; is = λ es q w. rw (inside.0, there es q w) }
+
 past_cons : (n b : ℕ) (p : Bytes) (pt : Bool) (e : Entry) (es : Tree) →
     check_past n b p pt (some (e ∷ es)) ≡ cond (besides p pt e.name (is_tree e.mode) && not (among p (names_of es))) (check_past (n + 1) (b + length e.name) e.name (is_tree e.mode) (some es)) none
 unfolding check_past well_past well_after besides
