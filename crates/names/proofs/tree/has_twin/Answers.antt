@@ -1,4 +1,5 @@
 -- `names::tree::has_twin` meets its contract: every entry passed comes before the twin, so the first that does not decides. Assumes nothing.
+use borrow.Author.Rules.{rules}
 use native.Mathlib.Omega.{arith}
 use mathlib.Core.Path.{◌∙◌}
 use Rattle.names.proofs.CheckLaws.{raw_damaged, raw_reach, raw_begins, raw_key_lem}
@@ -10,27 +11,27 @@ pub loop-at-init : goal.loop-at-init
 loop-at-init c = twin_begin _ _
 
 pub returns-in_default : goal.returns-in_default
-returns-in_default c = twin_damaged c.loop-at.invariant (raw_damaged _ _ _ c.read_entry.ensures c.loop-at-test.true c.in_default.is)
+returns-in_default c = twin_damaged c.loop-at.invariant (raw_damaged _ _ _ c.read_entry.ensures c.loop-at-test.true (search rules))
 
 pub loop-at-smaller : goal.loop-at-smaller
 loop-at-smaller c =
-    let x = raw_reach _ _ _ c.read_entry.ensures c.in-Entry.is in
+    let x = raw_reach _ _ _ c.read_entry.ensures c.in-Some.is in
     omega arith
 
 pub loop-at-preserved : goal.loop-at-preserved
 loop-at-preserved c =
-    twin_less c.loop-at.invariant (raw_begins _ _ _ c.read_entry.ensures c.in-Entry.is c.loop-at-test.true) _
-    (c.name_order.ensures ∙ raw_key_lem _ _ _ c.read_entry.ensures c.in-Entry.is c.between-other.ensures _ c.is_tree.ensures) c.in-Less.is
+    twin_less c.loop-at.invariant (raw_begins _ _ _ c.read_entry.ensures c.in-Some.is c.loop-at-test.true) _
+    (c.name_order.ensures ∙ raw_key_lem _ _ _ c.read_entry.ensures c.in-Some.is c.between.ensures _ c.is_tree.ensures) c.in-Less.is
 
 pub returns-in-Equal : goal.returns-in-Equal
 returns-in-Equal c =
-    twin_equal c.loop-at.invariant (raw_begins _ _ _ c.read_entry.ensures c.in-Entry.is c.loop-at-test.true) _
-    (c.name_order.ensures ∙ raw_key_lem _ _ _ c.read_entry.ensures c.in-Entry.is c.between-other.ensures _ c.is_tree.ensures) c.in-Equal.is
+    twin_equal c.loop-at.invariant (raw_begins _ _ _ c.read_entry.ensures c.in-Some.is c.loop-at-test.true) _
+    (c.name_order.ensures ∙ raw_key_lem _ _ _ c.read_entry.ensures c.in-Some.is c.between.ensures _ c.is_tree.ensures) c.in-Equal.is
 
 pub returns-in-Greater : goal.returns-in-Greater
 returns-in-Greater c =
-    twin_greater c.loop-at.invariant (raw_begins _ _ _ c.read_entry.ensures c.in-Entry.is c.loop-at-test.true) _
-    (c.name_order.ensures ∙ raw_key_lem _ _ _ c.read_entry.ensures c.in-Entry.is c.between-other.ensures _ c.is_tree.ensures) c.in-Greater.is
+    twin_greater c.loop-at.invariant (raw_begins _ _ _ c.read_entry.ensures c.in-Some.is c.loop-at-test.true) _
+    (c.name_order.ensures ∙ raw_key_lem _ _ _ c.read_entry.ensures c.in-Some.is c.between.ensures _ c.is_tree.ensures) c.in-Greater.is
 
 pub returns : goal.returns
 returns c = twin_end c.loop-at.invariant (entries_end _ _ _ c.loop-at-test.false)
