@@ -9,9 +9,7 @@ pub fn low_at(s: &[u8], k: usize) -> u64
     requires { k + 8 ≤ length s.now }
     ensures { LowAt s.now k result }
 {
-    let mut eight = [0; 8];
-    eight.copy_from_slice(&s[k..k + 8]);
-    u64::from_le_bytes(eight)
+    u64::from_le_bytes(s[k..k + 8].try_into().unwrap())
 }
 
 // A number with its eight bytes turned around.
