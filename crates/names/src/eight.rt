@@ -45,7 +45,9 @@ fn plain_block<const N: usize>(s: &[u8], k: usize) -> bool
     requires { k + N ≤ length s.now }
     ensures { result ≡ plain (take N (drop k s.now)) }
 {
-    s[k..k + N].iter().fold(true, |plain, &b| plain & (b != 47) & (b != 0))
+    s[k..k + N]
+        .iter()
+        .fold(true, |plain, &b| plain & (b != 47) & (b != 0))
 }
 
 // Whether a name has neither slash nor NUL: sixteen bytes at a time, and the last sixteen; or its first eight and its last eight.

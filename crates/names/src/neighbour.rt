@@ -10,7 +10,9 @@ use crate::order::Key;
 pub fn plain_from(name: &[u8], from: usize) -> bool
     ensures { result ≡ plain_from name.now from }
 {
-    crate::part::after(name, from).iter().all(|&b| b != 47 && b != 0)
+    crate::part::after(name, from)
+        .iter()
+        .all(|&b| b != 47 && b != 0)
 }
 
 // How an entry stands to the one before it: it may follow, and no later one has the name of the one before; it may follow; it may not.
