@@ -1,5 +1,5 @@
 -- Two neighbours: the bytes after those that both names begin with decide how they stand to each other. Assumes nothing.
-use Prim.Native.Nat.{ℕ, zero, suc, ◌+◌, ◌≤◌, ◌<◌, compare, Ordering}
+use Prim.Native.Nat.{ℕ, zero, suc, ◌+◌, ◌≤◌, ◌<◌, min, compare, Ordering}
 use mathlib.Core.Path.{◌≡◌, refl, sym, ap, ◌∙◌}
 use mathlib.Core.List.{[], ◌∷◌, ◌++◌}
 use mathlib.Core.Bool.{Bool, true, false, not, ◌&&◌, true≢false, false≢true}
@@ -23,6 +23,10 @@ use Rattle.names.specs.Check.{Shorter, Shares, Lower, plain, besides}
 use Rattle.names.specs.Eight.{AlikeTo}
 use Rattle.names.specs.Standings.{StandsIn}
 use Rattle.names.specs.declared.neighbour.Standing.TheVariants.{Apart, Within, Wrong}
+
+-- the smaller of two lengths
+pub shorter_min : {m n r : ℕ} → r ≡ min m n → Shorter m n r
+shorter_min e = record { left = omega arith; right = omega arith; one = λ p q. omega (arith, p, q) }
 
 -- at place i of two names that are alike so far
 pub record Alike (a b : Bytes) (n i : ℕ) : Type 0 where
