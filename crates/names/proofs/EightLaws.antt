@@ -11,8 +11,8 @@ use mathlib.Core.List.{[], ◌∷◌, ◌++◌}
 use mathlib.Core.Bool.{Bool, true, false}
 use native.Mathlib.Omega.{arith}
 use lib.Dec.{eqb, ltb}
-use lib.ListN.{length, take, drop, get_or, length-drop, take-append-drop, drop_of_length-le}
-use lib.Seq.{drop-drop, take_all, take-add, take-take, get_or-drop, length-take-le}
+use lib.ListN.{length, take, drop, get_or, length-drop, take-append-drop}
+use lib.Seq.{take_all, take-add, take-take, get_or-drop, length-take-le}
 use borrow.Author.Tests.{eqb-true, eqb-false, ltb-true, ltb-false}
 use Rattle.model.specs.Bytes.{Bytes, cmp, same}
 use Rattle.model.specs.Tree.{as_kind}
@@ -32,8 +32,8 @@ pub front_begin : (s : Bytes) → Front s 0
 unfolding plain
 front_begin s = record { within = omega arith; good = refl }
 
-pub front_more : {s : Bytes} {i j : ℕ} → Front s i → i + 8 ≤ length s → plain (take 8 (drop i s)) ≡ true → j ≡ i + 8 → Front s j
-front_more {s} {i} at h e q = rw q (record { within = h; good = ap plain (take-add i 8 s) ∙ plain_append (take i s) (take 8 (drop i s)) at.good ∙ e })
+pub front_more : {s : Bytes} {i j : ℕ} (n : ℕ) → Front s i → i + n ≤ length s → plain (take n (drop i s)) ≡ true → j ≡ i + n → Front s j
+front_more {s} {i} n at h e q = rw q (record { within = h; good = ap plain (take-add i n s) ∙ plain_append (take i s) (take n (drop i s)) at.good ∙ e })
 
 -- each part of a plain name is plain
 plain_part : (s : Bytes) (k n : ℕ) → plain (take n (drop k s)) ≡ false → false ≡ plain s
@@ -46,42 +46,17 @@ plain_part s k n e = go (plain s) refl
         no_way (sym (plain_front (take n (drop k s)) (drop n (drop k s)) (ap plain (take-append-drop n (drop k s)) ∙ rest)) ∙ e)
     go false p = refl
 
-pub odd_there : (s : Bytes) (k : ℕ) {r : Bool} → r ≡ plain (take 8 (drop k s)) → r ≡ false → false ≡ plain s
-odd_there s k e f = plain_part s k 8 (sym e ∙ f)
+pub odd_there : (s : Bytes) (k n : ℕ) {r : Bool} → r ≡ plain (take n (drop k s)) → r ≡ false → false ≡ plain s
+odd_there s k n e f = plain_part s k n (sym e ∙ f)
 
--- i bytes from both ends of a name that are plain
-pub record Seen (s : Bytes) (i : ℕ) : Type 0 where
-  pub within : i ≤ length s
-  pub room : i < length s - i → i + 8 ≤ length s
-  pub front : plain (take i s) ≡ true
-  pub back : plain (drop (length s - i) s) ≡ true
-
-pub seen_begin : (s : Bytes) → 8 ≤ length s → Seen s 0
-unfolding plain
-seen_begin s h = record { within = omega arith; room = λ _. omega arith; front = refl; back = rw (drop_of_length-le s {i = length s - 0} (omega arith)) }
-
-module _ {s : Bytes} {i : ℕ} (at : Seen s i) where
-  pub seen_more : {j : ℕ} → j ≡ i + 8 → i < length s - i → plain (take 8 (drop i s)) ≡ true → plain (take 8 (drop (length s - 8 - i) s)) ≡ true → Seen s j
-  seen_more x h e f =
-      let r = at.room h in
-      let k = length s - 8 - i in
-      let p : length s - (i + 8) ≡ k = omega arith in
-      let q : k + 8 ≡ length s - i = omega arith in
-      let d : drop 8 (drop k s) ≡ drop (length s - i) s = drop-drop 8 k s ∙ ap (λ (n : ℕ). drop n s) q in
-      rw x
-      (record {
-        within = r;
-        room = λ g. omega arith;
-        front = ap plain (take-add i 8 s) ∙ plain_append (take i s) (take 8 (drop i s)) at.front ∙ e;
-        back = ap (λ (n : ℕ). plain (drop n s)) p ∙ ap plain (sym (take-append-drop 8 (drop k s))) ∙ plain_append (take 8 (drop k s)) (drop 8 (drop k s)) f ∙ ap plain d ∙ at.back;
-      })
-
-  pub seen_end : length s - i ≤ i → true ≡ plain s
-  seen_end h =
-      let m = length s - i in
-      let front : plain (take m (take i s)) ≡ true = plain_front (take m (take i s)) (drop m (take i s)) (ap plain (take-append-drop m (take i s)) ∙ at.front) in
-      let part : take m (take i s) ≡ take m s = take-take m i s h in
-      sym (ap plain (sym (take-append-drop m s)) ∙ plain_append (take m s) (drop m s) (ap plain (sym part) ∙ front) ∙ at.back)
+-- past a front that is plain, the last n bytes decide
+pub front_rest : {s : Bytes} {i : ℕ} (n : ℕ) → Front s i → n ≤ length s → length s ≤ i + n → {r : Bool} → r ≡ plain (take n (drop (length s - n) s)) → r ≡ plain s
+front_rest {s} {i} n at h g e =
+    let m = length s - n in
+    let front : plain (take m (take i s)) ≡ true = plain_front (take m (take i s)) (drop m (take i s)) (ap plain (take-append-drop m (take i s)) ∙ at.good) in
+    let part : take m (take i s) ≡ take m s = take-take m i s (omega arith) in
+    let last : take n (drop m s) ≡ drop m s = take_all n (drop m s) (omega (arith, length-drop m s)) in
+    e ∙ ap plain last ∙ sym (ap plain (sym (take-append-drop m s)) ∙ plain_append (take m s) (drop m s) (ap plain (sym part) ∙ front))
 
 -- bytes stay bytes in a part
 pub low_take : (n : ℕ) (l : Bytes) → ((i : ℕ) → get_or l i 0 < 256) → (i : ℕ) → get_or (take n l) i 0 < 256

@@ -92,9 +92,9 @@ well_from w k (e ∷ es) h =
     ∙ ap (λ (z : Bool). good_name e.name && (is_less (cmp k (key e)) && (not (among e.name (names_of es)) && z))) (well_from w (key e) es h.1)
 
 -- nothing is before every good name
-first_above : (n : Bytes) (tree : Bool) → good_name n ≡ true → cmp [] (as_kind tree n) ≡ Ordering.lt
+first_above : (n : Bytes) (t : Bool) → good_name n ≡ true → cmp [] (as_kind t n) ≡ Ordering.lt
 unfolding good_name
-first_above [] tree h = absurd (let z : ◌≡◌ {A = ℕ} 0 1 = cc in omega arith)
+first_above [] t h = absurd (let z : ◌≡◌ {A = ℕ} 0 1 = cc in omega arith)
 first_above (x ∷ n) true h = refl
 first_above (x ∷ n) false h = refl
 

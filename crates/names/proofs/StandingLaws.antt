@@ -1,16 +1,17 @@
 -- Two neighbours: the bytes after those that both names begin with decide how they stand to each other. Assumes nothing.
-use Prim.Native.Nat.{ℕ, zero, suc, ◌+◌, ◌≤◌, ◌<◌, compare, Ordering}
+use Prim.Native.Nat.{ℕ, zero, suc, ◌+◌, ◌≤◌, ◌<◌, min, compare, Ordering}
 use mathlib.Core.Path.{◌≡◌, refl, sym, ap, ◌∙◌}
 use mathlib.Core.List.{[], ◌∷◌, ◌++◌}
-use mathlib.Core.Bool.{Bool, true, false, not, true≢false, false≢true}
+use mathlib.Core.Bool.{Bool, true, false, not, ◌&&◌, true≢false, false≢true}
 use native.Mathlib.Numerals.{add-one}
 use native.Mathlib.Omega.{arith}
 use lib.ListN.{length, take, drop, get_or, length-append, take-append-drop}
 use lib.Seq.{take-suc, drop-cons, take-append-le}
 use Rattle.std.proofs.Common.{◌⊎◌, ⊎_elim}
 use Rattle.std.specs.Bool.{MatchBool}
-use Rattle.std.specs.List.{AllWithin, HoldsAt}
-use borrow.Author.Tests.{le-leb, not-true}
+use Rattle.std.specs.List.{AllWithin, HoldsAt, fold}
+use lib.Dec.{eqb}
+use borrow.Author.Tests.{le-leb, not-true, eqb-true, eqb-false}
 use Rattle.model.specs.Bytes.{Bytes, cmp, by, same, has}
 use Rattle.model.specs.Tree.{as_kind, good_name}
 use Rattle.model.proofs.Basics.{and_left, and_right, and_false}
@@ -22,6 +23,10 @@ use Rattle.names.specs.Check.{Shorter, Shares, Lower, plain, besides}
 use Rattle.names.specs.Eight.{AlikeTo}
 use Rattle.names.specs.Standings.{StandsIn}
 use Rattle.names.specs.declared.neighbour.Standing.TheVariants.{Apart, Within, Wrong}
+
+-- the smaller of two lengths
+pub shorter_min : {m n r : ℕ} → r ≡ min m n → Shorter m n r
+shorter_min e = record { left = omega arith; right = omega arith; one = λ p q. omega (arith, p, q) }
 
 -- at place i of two names that are alike so far
 pub record Alike (a b : Bytes) (n i : ℕ) : Type 0 where
@@ -149,9 +154,38 @@ plain_odd s k h o true e = ⊎_elim (λ p. absurd (has_at 47 k s (no_slash s e) 
 plain_odd s k h o false e = refl
 
 -- a test of each byte says whether all is plain
-pub plain_all : (s : Bytes) (r : Bool) → MatchBool r (AllWithin Clear s 0 (length s)) ((k : ℕ) × (k < length s) × HoldsAt Odd s k) → r ≡ plain s
-plain_all s true h = sym (plain_clear s h)
-plain_all s false (k, l, o) = plain_odd s k l (o 0) (plain s) refl
+pub plain_each : (s : Bytes) (r : Bool) → MatchBool r (AllWithin Clear s 0 (length s)) ((k : ℕ) × (k < length s) × HoldsAt Odd s k) → r ≡ plain s
+plain_each s true h = sym (plain_clear s h)
+plain_each s false (k, l, o) = plain_odd s k l (o 0) (plain s) refl
+
+-- whether what was seen so far and one more byte is plain
+abbrev pub still_plain : Bool → ℕ → Bool
+still_plain t b = t && not (eqb b 47) && not (eqb b 0)
+
+plain_cons : (x : ℕ) (s : Bytes) → plain (x ∷ s) ≡ (not (eqb x 47) && (not (eqb x 0) && plain s))
+unfolding plain
+plain_cons x s = go (eqb x 47) refl (eqb x 0) refl
+  where
+    go : (p : Bool) → eqb x 47 ≡ p → (q : Bool) → eqb x 0 ≡ q → (not (has 47 (x ∷ s)) && not (has 0 (x ∷ s))) ≡ (not p && (not q && (not (has 47 s) && not (has 0 s))))
+    go true e q f = rw (has_here 47 x s (eqb-true x 47 e))
+    go false e true f = rw (has_here 0 x s (eqb-true x 0 f)) (and_false (not (has 47 (x ∷ s))))
+    go false e false f = rw (has_past 47 x s (eqb-false x 47 e), has_past 0 x s (eqb-false x 0 f))
+
+plain_seen : (t : Bool) (s : Bytes) → fold still_plain t s ≡ (t && plain s)
+unfolding plain
+plain_seen true [] = refl
+plain_seen false [] = refl
+plain_seen t (x ∷ s) = plain_seen (still_plain t x) s ∙ go t (eqb x 47) (eqb x 0) ∙ ap (λ (b : Bool). t && b) (sym (plain_cons x s))
+  where
+    go : (t p q : Bool) → ((t && not p && not q) && plain s) ≡ (t && (not p && (not q && plain s)))
+    go true true q = refl
+    go true false true = refl
+    go true false false = refl
+    go false p q = refl
+
+-- a test of one byte after the other says whether all is plain
+pub plain_all : (s : Bytes) → fold still_plain true s ≡ plain s
+plain_all s = plain_seen true s
 
 -- what of a name is left from place i on
 pub record Plain (n : Bytes) (from i : ℕ) : Type 0 where

@@ -9,9 +9,7 @@ pub fn low_at(s: &[u8], k: usize) -> u64
     requires { k + 8 ≤ length s.now }
     ensures { LowAt s.now k result }
 {
-    let mut eight = [0; 8];
-    eight.copy_from_slice(&s[k..k + 8]);
-    u64::from_le_bytes(eight)
+    u64::from_le_bytes(s[k..k + 8].try_into().unwrap())
 }
 
 // A number with its eight bytes turned around.
@@ -42,15 +40,17 @@ pub fn alike_front(a: &[u8], b: &[u8], n: usize) -> usize
     n / 8 * 8
 }
 
-// Whether the eight bytes from k on are neither slash nor NUL.
-fn plain_eight(s: &[u8], k: usize) -> bool
-    requires { k + 8 ≤ length s.now }
-    ensures { result ≡ plain (take 8 (drop k s.now)) }
+// Whether the N bytes from k on are neither slash nor NUL.
+fn plain_block<const N: usize>(s: &[u8], k: usize) -> bool
+    requires { k + N ≤ length s.now }
+    ensures { result ≡ plain (take N (drop k s.now)) }
 {
-    crate::neighbour::is_plain(&s[k..k + 8])
+    s[k..k + N]
+        .iter()
+        .fold(true, |plain, &b| plain & (b != 47) & (b != 0))
 }
 
-// Whether a name has neither slash nor NUL: eight bytes at a time, from both ends.
+// Whether a name has neither slash nor NUL: sixteen bytes at a time, and the last sixteen; or its first eight and its last eight.
 pub fn plain_name(s: &[u8]) -> bool
     ensures { result ≡ plain s.now }
 {
@@ -58,12 +58,15 @@ pub fn plain_name(s: &[u8]) -> bool
     if n < 8 {
         return crate::neighbour::plain_from(s, 0);
     }
-    for k in 0..n.div_ceil(16) {
-        if !plain_eight(s, 8 * k) || !plain_eight(s, n - 8 - 8 * k) {
+    if n < 16 {
+        return plain_block::<8>(s, 0) && plain_block::<8>(s, n - 8);
+    }
+    for k in 0..(n - 1) / 16 {
+        if !plain_block::<16>(s, 16 * k) {
             return false;
         }
     }
-    true
+    plain_block::<16>(s, n - 16)
 }
 
 // Whether two names are the same: those of eight to sixteen bytes by their first eight and their last eight.
@@ -85,7 +88,7 @@ pub fn plain_front(s: &[u8]) -> usize
     ensures { (result ≤ length s.now) × (plain (take result s.now) ≡ true) }
 {
     for k in 0..s.len() / 8 {
-        if !plain_eight(s, 8 * k) {
+        if !plain_block::<8>(s, 8 * k) {
             return 8 * k;
         }
     }

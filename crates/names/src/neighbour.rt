@@ -6,18 +6,13 @@ ghost use Rattle.names.specs.Standings.{StandsAs};
 
 use crate::order::Key;
 
-// Whether bytes have neither slash nor NUL.
-pub fn is_plain(s: &[u8]) -> bool
-    ensures { result ≡ plain s.now }
-{
-    s.iter().all(|&b| b != 47 && b != 0)
-}
-
 // Whether a name has neither slash nor NUL from place `from` on.
 pub fn plain_from(name: &[u8], from: usize) -> bool
     ensures { result ≡ plain_from name.now from }
 {
-    is_plain(crate::part::after(name, from))
+    crate::part::after(name, from)
+        .iter()
+        .all(|&b| b != 47 && b != 0)
 }
 
 // How an entry stands to the one before it: it may follow, and no later one has the name of the one before; it may follow; it may not.

@@ -9,13 +9,13 @@ use Rattle.names.proofs.eight.plain_front.Goals as goal
 pub loop-k-init : goal.loop-k-init
 loop-k-init c = front_begin _
 
-pub returns-then-not-plain_eight : goal.returns-then-not-plain_eight
-returns-then-not-plain_eight c =
+pub returns-then-not-plain_block : goal.returns-then-not-plain_block
+returns-then-not-plain_block c =
     let at = c.loop-k.invariant in
     (at.within, at.good)
 
 pub loop-k-preserved : goal.loop-k-preserved
-loop-k-preserved c = front_more c.loop-k.invariant (omega arith) (sym c.plain_eight.ensures ∙ c.if-not-plain_eight.false) (omega arith)
+loop-k-preserved c = front_more 8 c.loop-k.invariant (omega arith) (sym c.plain_block.ensures ∙ c.if-not-plain_block.false) (omega arith)
 
 pub returns : goal.returns
 returns c =

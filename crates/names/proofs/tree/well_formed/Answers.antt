@@ -21,8 +21,8 @@ returns-in_err-e c = ap checked_as c.from_residual.ensures ∙ check_damaged c.l
 pub loop-at-preserved : goal.loop-at-preserved
 loop-at-preserved c =
     check_more c.loop-at.invariant (raw_begins _ _ _ c.read_entry.ensures c.in_ok-e.was c.loop-at-test.true)
-    c.between.ensures c.is_tree.ensures c.may_follow.ensures
-    (raw_short _ _ _ c.read_entry.ensures c.in_ok-e.was c.between.ensures) (raw_reach _ _ _ c.read_entry.ensures c.in_ok-e.was).inside c.if-not-may_follow.false
+    c.key-key.ensures.name c.key-key.ensures.tree c.may_follow.ensures
+    (raw_short _ _ _ c.read_entry.ensures c.in_ok-e.was c.key-key.ensures.name) (raw_reach _ _ _ c.read_entry.ensures c.in_ok-e.was).inside c.if-not-may_follow.false
 
 pub overflow_add-entries : goal.overflow_add-entries
 overflow_add-entries c =
@@ -42,7 +42,7 @@ loop-at-smaller c =
 pub returns-then-not-may_follow : goal.returns-then-not-may_follow
 returns-then-not-may_follow c =
     check_broken c.loop-at.invariant (raw_begins _ _ _ c.read_entry.ensures c.in_ok-e.was c.loop-at-test.true)
-    c.between.ensures c.is_tree.ensures c.may_follow.ensures c.if-not-may_follow.true
+    c.key-key.ensures.name c.key-key.ensures.tree c.may_follow.ensures c.if-not-may_follow.true
 
 pub returns : goal.returns
 returns c = check_end c.loop-at.invariant (entries_end _ _ _ c.loop-at-test.false)
