@@ -1,58 +1,27 @@
 -- Bytes eight at a time: a name is plain where each eight of its bytes are, and of two numbers of as many bytes the first bytes that differ decide; such a number gives its bytes back. Assumes nothing.
-use Prim.Native.Nat.{Ordering}
+use Rattle.std.specs.Cmp.{ranks}
+use Rattle.std.specs.Ordering.{MatchOrdering, nat_cmp}
+use Rattle.std.specs.declared.cmp.Ordering as std
+use Rattle.std.specs.declared.cmp.Ordering.TheVariants.{Less, Equal, Greater}
+use Rattle.std.proofs.lemmas.List.{get_or-take, length-take}
+use Rattle.names.specs.Answers.{as_ordering}
 use Prim.Native.Nat.{ℕ, zero, suc, ◌+◌, ◌-◌, ◌*◌, ◌≤◌, ◌<◌, ◌/◌, ◌%◌}
 use mathlib.Core.Path.{◌≡◌, refl, sym, ap, ◌∙◌}
 use mathlib.Core.List.{[], ◌∷◌, ◌++◌}
-use mathlib.Core.Bool.{Bool, true, false, not, ◌&&◌, ◌||◌}
+use mathlib.Core.Bool.{Bool, true, false}
 use native.Mathlib.Omega.{arith}
 use lib.Dec.{eqb, ltb}
 use lib.ListN.{length, take, drop, get_or, length-drop, take-append-drop, drop_of_length-le}
-use lib.Seq.{drop-cons, drop-drop, take_all, take-add, take-take, get_or-drop, length-take-le}
+use lib.Seq.{drop-drop, take_all, take-add, take-take, get_or-drop, length-take-le}
 use borrow.Author.Tests.{eqb-true, eqb-false, ltb-true, ltb-false}
-use Rattle.model.specs.Bytes.{Bytes, cmp, has, same}
+use Rattle.model.specs.Bytes.{Bytes, cmp, same}
 use Rattle.model.specs.Tree.{as_kind}
-use Rattle.model.proofs.Basics.{and_false, no_way}
-use Rattle.model.proofs.ByteLaws.{has_here, has_past, same_eq, same_of}
+use Rattle.std.specs.Int.{w64, from_le_bytes, swap_bytes}
+use Rattle.model.proofs.Basics.{no_way}
+use Rattle.model.proofs.ByteLaws.{same_eq, same_of}
 use Rattle.names.specs.Check.{Lower, plain}
 use Rattle.names.specs.Eight.{number, low_number, bytes_of, LowAt, AlikeTo}
 use Rattle.names.proofs.StandingLaws.{plain_append, plain_front, lower_less, lower_greater}
-
--- the eight bytes at a place
-eight : (s : Bytes) (k : ℕ) → k + 8 ≤ length s →
-    take 8 (drop k s) ≡ get_or s k 0 ∷ get_or s (k + 1) 0 ∷ get_or s (k + 2) 0 ∷ get_or s (k + 3) 0 ∷ get_or s (k + 4) 0 ∷ get_or s (k + 5) 0 ∷ get_or s (k + 6) 0 ∷ get_or s (k + 7) 0 ∷ []
-eight s k h =
-    next 7 k (k + 1) refl (omega arith) (next 6 (k + 1) (k + 2) (omega arith) (omega arith) (next 5 (k + 2) (k + 3) (omega arith) (omega arith) (next 4 (k + 3) (k + 4) (omega arith) (omega arith)
-    (next 3 (k + 4) (k + 5) (omega arith) (omega arith) (next 2 (k + 5) (k + 6) (omega arith) (omega arith) (next 1 (k + 6) (k + 7) (omega arith) (omega arith)
-    (next 0 (k + 7) (k + 8) (omega arith) (omega arith) refl)))))))
-  where
-    next : (n k m : ℕ) → k + 1 ≡ m → k < length s → {l : Bytes} → take n (drop m s) ≡ l → take (suc n) (drop k s) ≡ get_or s k 0 ∷ l
-    next n k m e g q =
-        let z : suc k ≡ m = omega arith in
-        rw (drop-cons s k 0 g, z, q)
-
--- whether one of the bytes is a slash or NUL, or one before them was
-abbrev pub odd : Bool → Bytes → Bool
-odd t [] = t
-odd t (x ∷ l) = odd (t || eqb x 0 || eqb x 47) l
-
-plain_cons : (x : ℕ) (l : Bytes) → plain (x ∷ l) ≡ (not (eqb x 0 || eqb x 47) && plain l)
-unfolding plain
-plain_cons x l = go (eqb x 0) refl (eqb x 47) refl
-  where
-    go : (p : Bool) → eqb x 0 ≡ p → (q : Bool) → eqb x 47 ≡ q → (not (has 47 (x ∷ l)) && not (has 0 (x ∷ l))) ≡ (not (p || q) && (not (has 47 l) && not (has 0 l)))
-    go true e q f = rw (has_here 0 x l (eqb-true x 0 e)) (and_false (not (has 47 (x ∷ l))))
-    go false e true f = rw (has_here 47 x l (eqb-true x 47 f))
-    go false e false f = rw (has_past 0 x l (eqb-false x 0 e), has_past 47 x l (eqb-false x 47 f))
-
-plain_odd : (t : Bool) (l : Bytes) → not (odd t l) ≡ (not t && plain l)
-unfolding plain
-plain_odd true [] = refl
-plain_odd false [] = refl
-plain_odd t (x ∷ l) = plain_odd (t || eqb x 0 || eqb x 47) l ∙ go t (eqb x 0) (eqb x 47) ∙ ap (λ (b : Bool). not t && b) (sym (plain_cons x l))
-  where
-    go : (t p q : Bool) → (not (t || p || q) && plain l) ≡ (not t && (not (p || q) && plain l))
-    go true p q = refl
-    go false p q = refl
 
 -- the first i bytes are plain
 pub record Front (s : Bytes) (i : ℕ) : Type 0 where
@@ -63,13 +32,8 @@ pub front_begin : (s : Bytes) → Front s 0
 unfolding plain
 front_begin s = record { within = omega arith; good = refl }
 
-pub front_more : {s : Bytes} {i : ℕ} → Front s i → i + 8 ≤ length s → plain (take 8 (drop i s)) ≡ true → Front s (i + 8)
-front_more {s} {i} at h e = record { within = h; good = ap plain (take-add i 8 s) ∙ plain_append (take i s) (take 8 (drop i s)) at.good ∙ e }
-
-pub plain_there : (s : Bytes) (k : ℕ) → k + 8 ≤ length s →
-    not (odd false (get_or s k 0 ∷ get_or s (k + 1) 0 ∷ get_or s (k + 2) 0 ∷ get_or s (k + 3) 0 ∷ get_or s (k + 4) 0 ∷ get_or s (k + 5) 0 ∷ get_or s (k + 6) 0 ∷ get_or s (k + 7) 0 ∷ []))
-    ≡ plain (take 8 (drop k s))
-plain_there s k h = ap (λ (l : Bytes). not (odd false l)) (sym (eight s k h)) ∙ plain_odd false (take 8 (drop k s))
+pub front_more : {s : Bytes} {i j : ℕ} (n : ℕ) → Front s i → i + n ≤ length s → plain (take n (drop i s)) ≡ true → j ≡ i + n → Front s j
+front_more {s} {i} n at h e q = rw q (record { within = h; good = ap plain (take-add i n s) ∙ plain_append (take i s) (take n (drop i s)) at.good ∙ e })
 
 -- each part of a plain name is plain
 plain_part : (s : Bytes) (k n : ℕ) → plain (take n (drop k s)) ≡ false → false ≡ plain s
@@ -82,57 +46,17 @@ plain_part s k n e = go (plain s) refl
         no_way (sym (plain_front (take n (drop k s)) (drop n (drop k s)) (ap plain (take-append-drop n (drop k s)) ∙ rest)) ∙ e)
     go false p = refl
 
-pub odd_either : (p q : Bool) (s : Bytes) (j k : ℕ) → p ≡ plain (take 8 (drop j s)) → q ≡ plain (take 8 (drop k s)) → (p && q) ≡ false → false ≡ plain s
-odd_either true true s j k e f h = no_way h
-odd_either true false s j k e f h = plain_part s k 8 (sym f)
-odd_either false q s j k e f h = plain_part s j 8 (sym e)
+pub odd_there : (s : Bytes) (k n : ℕ) {r : Bool} → r ≡ plain (take n (drop k s)) → r ≡ false → false ≡ plain s
+odd_there s k n e f = plain_part s k n (sym e ∙ f)
 
--- i bytes from both ends of a name that are plain
-pub record Seen (s : Bytes) (i : ℕ) : Type 0 where
-  pub within : i ≤ length s
-  pub room : i < length s - i → i + 8 ≤ length s
-  pub front : plain (take i s) ≡ true
-  pub back : plain (drop (length s - i) s) ≡ true
-
-pub seen_begin : (s : Bytes) → 8 ≤ length s → Seen s 0
-unfolding plain
-seen_begin s h = record { within = omega arith; room = λ _. omega arith; front = refl; back = rw (drop_of_length-le s {i = length s - 0} (omega arith)) }
-
-module _ {s : Bytes} {i : ℕ} (at : Seen s i) where
-  pub seen_more : i < length s - i → plain (take 8 (drop i s)) ≡ true → plain (take 8 (drop (length s - 8 - i) s)) ≡ true → Seen s (i + 8)
-  seen_more h e f =
-      let r = at.room h in
-      let k = length s - 8 - i in
-      let p : length s - (i + 8) ≡ k = omega arith in
-      let q : k + 8 ≡ length s - i = omega arith in
-      let d : drop 8 (drop k s) ≡ drop (length s - i) s = drop-drop 8 k s ∙ ap (λ (n : ℕ). drop n s) q in
-      record {
-        within = r;
-        room = λ g. omega arith;
-        front = ap plain (take-add i 8 s) ∙ plain_append (take i s) (take 8 (drop i s)) at.front ∙ e;
-        back = ap (λ (n : ℕ). plain (drop n s)) p ∙ ap plain (sym (take-append-drop 8 (drop k s))) ∙ plain_append (take 8 (drop k s)) (drop 8 (drop k s)) f ∙ ap plain d ∙ at.back;
-      }
-
-  pub seen_end : length s - i ≤ i → true ≡ plain s
-  seen_end h =
-      let m = length s - i in
-      let front : plain (take m (take i s)) ≡ true = plain_front (take m (take i s)) (drop m (take i s)) (ap plain (take-append-drop m (take i s)) ∙ at.front) in
-      let part : take m (take i s) ≡ take m s = take-take m i s h in
-      sym (ap plain (sym (take-append-drop m s)) ∙ plain_append (take m s) (drop m s) (ap plain (sym part) ∙ front) ∙ at.back)
-
--- the number of the eight bytes at a place, which is small enough since each of them is
-pub record Low (s : Bytes) (k : ℕ) : Type 0 where
-  pub a : get_or s k 0 < 256
-  pub b : get_or s (k + 1) 0 < 256
-  pub c : get_or s (k + 2) 0 < 256
-  pub d : get_or s (k + 3) 0 < 256
-  pub e : get_or s (k + 4) 0 < 256
-  pub f : get_or s (k + 5) 0 < 256
-  pub g : get_or s (k + 6) 0 < 256
-  pub h : get_or s (k + 7) 0 < 256
-
-pub low_bytes : (s : Bytes) (k : ℕ) → ((i : ℕ) → get_or s i 0 < 256) → Low s k
-low_bytes s k l = record { a = l k; b = l (k + 1); c = l (k + 2); d = l (k + 3); e = l (k + 4); f = l (k + 5); g = l (k + 6); h = l (k + 7) }
+-- past a front that is plain, the last n bytes decide
+pub front_rest : {s : Bytes} {i : ℕ} (n : ℕ) → Front s i → n ≤ length s → length s ≤ i + n → {r : Bool} → r ≡ plain (take n (drop (length s - n) s)) → r ≡ plain s
+front_rest {s} {i} n at h g e =
+    let m = length s - n in
+    let front : plain (take m (take i s)) ≡ true = plain_front (take m (take i s)) (drop m (take i s)) (ap plain (take-append-drop m (take i s)) ∙ at.good) in
+    let part : take m (take i s) ≡ take m s = take-take m i s (omega arith) in
+    let last : take n (drop m s) ≡ drop m s = take_all n (drop m s) (omega (arith, length-drop m s)) in
+    e ∙ ap plain last ∙ sym (ap plain (sym (take-append-drop m s)) ∙ plain_append (take m s) (drop m s) (ap plain (sym part) ∙ front))
 
 -- bytes stay bytes in a part
 pub low_take : (n : ℕ) (l : Bytes) → ((i : ℕ) → get_or l i 0 < 256) → (i : ℕ) → get_or (take n l) i 0 < 256
@@ -140,6 +64,13 @@ low_take zero l h i = omega arith
 low_take (suc n) [] h i = omega arith
 low_take (suc n) (x ∷ l) h zero = h 0
 low_take (suc n) (x ∷ l) h (suc i) = low_take n l (λ j. h (suc j)) i
+
+-- and those of a number are bytes
+low_of : (n w i : ℕ) → get_or (bytes_of n w) i 0 < 256
+unfolding bytes_of
+low_of zero w i = omega arith
+low_of (suc n) w zero = omega arith
+low_of (suc n) w (suc i) = low_of n (w / 256) i
 
 -- the bytes of the number that bytes say are these bytes
 bytes_back : (n : ℕ) (l : Bytes) → length l ≡ n → ((i : ℕ) → get_or l i 0 < 256) → bytes_of n (low_number l) ≡ l
@@ -153,10 +84,19 @@ bytes_back (suc n) (x ∷ l) e h =
     let q : (x + 256 * low_number l) / 256 ≡ low_number l = omega arith in
     rw (p, q, bytes_back n l (omega arith) (λ i. h (suc i)))
 
-low_sum : (a b c d e f g h : ℕ) →
-    a + b * 256 + c * 65536 + d * 16777216 + e * 4294967296 + f * 1099511627776 + g * 281474976710656 + h * 72057594037927936 ≡ low_number (a ∷ b ∷ c ∷ d ∷ e ∷ f ∷ g ∷ h ∷ [])
+-- what the eight bytes of a list say, the first the lowest
+low_says : (l : Bytes) → length l ≡ 8 → from_le_bytes w64 l ≡ low_number l
 unfolding low_number
-low_sum a b c d e f g h = omega arith
+low_says (a ∷ b ∷ c ∷ d ∷ e ∷ f ∷ g ∷ h ∷ []) n = omega arith
+low_says [] n = absurd (omega arith)
+low_says (a ∷ []) n = absurd (omega arith)
+low_says (a ∷ b ∷ []) n = absurd (omega arith)
+low_says (a ∷ b ∷ c ∷ []) n = absurd (omega arith)
+low_says (a ∷ b ∷ c ∷ d ∷ []) n = absurd (omega arith)
+low_says (a ∷ b ∷ c ∷ d ∷ e ∷ []) n = absurd (omega arith)
+low_says (a ∷ b ∷ c ∷ d ∷ e ∷ f ∷ []) n = absurd (omega arith)
+low_says (a ∷ b ∷ c ∷ d ∷ e ∷ f ∷ g ∷ []) n = absurd (omega arith)
+low_says (a ∷ b ∷ c ∷ d ∷ e ∷ f ∷ g ∷ h ∷ i ∷ l) n = absurd (omega arith)
 
 high_sum : (a b c d e f g h : ℕ) →
     a * 72057594037927936 + b * 281474976710656 + c * 1099511627776 + d * 4294967296 + e * 16777216 + f * 65536 + g * 256 + h ≡ number 0 (a ∷ b ∷ c ∷ d ∷ e ∷ f ∷ g ∷ h ∷ [])
@@ -164,27 +104,14 @@ unfolding number
 high_sum a b c d e f g h = omega arith
 
 -- the number of the eight bytes at a place, the first the lowest
-pub low_there : (s : Bytes) (k : ℕ) → k + 8 ≤ length s → ((i : ℕ) → get_or s i 0 < 256) →
-    LowAt s k
-    (get_or s k 0 + get_or s (k + 1) 0 * 256 + get_or s (k + 2) 0 * 65536 + get_or s (k + 3) 0 * 16777216 + get_or s (k + 4) 0 * 4294967296 + get_or s (k + 5) 0 * 1099511627776 + get_or s (k + 6) 0 * 281474976710656
-    + get_or s (k + 7) 0 * 72057594037927936)
-low_there s k h l =
-    let e = low_sum (get_or s k 0) (get_or s (k + 1) 0) (get_or s (k + 2) 0) (get_or s (k + 3) 0) (get_or s (k + 4) 0) (get_or s (k + 5) 0) (get_or s (k + 6) 0) (get_or s (k + 7) 0) ∙ ap low_number (sym (eight s k h)) in
-    record {
-      is = e;
-      back =
-          ap (bytes_of 8) e
-          ∙ bytes_back 8 (take 8 (drop k s)) (length-take-le 8 (drop k s) (omega (arith, length-drop k s))) (low_take 8 (drop k s) (λ i. rw (get_or-drop k s i 0) (l (k + i))));
-    }
+pub low_there : (s : Bytes) (k : ℕ) → k + 8 ≤ length s → ((i : ℕ) → get_or s i 0 < 256) → {l : Bytes} → l ≡ take 8 (drop k s) → {w : ℕ} → w ≡ from_le_bytes w64 l → LowAt s k w
+low_there s k h b {l} el ew =
+    let n : length l ≡ 8 = ap length el ∙ length-take-le 8 (drop k s) (omega (arith, length-drop k s)) in
+    let e = ew ∙ low_says l n ∙ ap low_number el in
+    record { is = e; back = ap (bytes_of 8) e ∙ bytes_back 8 (take 8 (drop k s)) (length-take-le 8 (drop k s) (omega (arith, length-drop k s))) (low_take 8 (drop k s) (λ i. rw (get_or-drop k s i 0) (b (k + i)))) }
 
 -- and turned around: the bytes of a number as one with the first the highest
-pub turned_fits : (a b c d e f g h : ℕ) → a < 256 → b < 256 → c < 256 → d < 256 → e < 256 → f < 256 → g < 256 → h < 256 →
-    a * 72057594037927936 + b * 281474976710656 + c * 1099511627776 + d * 4294967296 + e * 16777216 + f * 65536 + g * 256 + h < 18446744073709551616
-turned_fits a b c d e f g h p q r s t u v w = omega arith
-
-pub turned : (w : ℕ) → w < 18446744073709551616 →
-    (w % 256) * 72057594037927936 + (w / 256 % 256) * 281474976710656 + (w / 65536 % 256) * 1099511627776 + (w / 16777216 % 256) * 4294967296
-    + (w / 4294967296 % 256) * 16777216 + (w / 1099511627776 % 256) * 65536 + (w / 281474976710656 % 256) * 256 + w / 72057594037927936 ≡ number 0 (bytes_of 8 w)
+pub turned : (w : ℕ) → w < 18446744073709551616 → swap_bytes w64 w ≡ number 0 (bytes_of 8 w)
 unfolding bytes_of
 turned w h =
     let c : w / 65536 ≡ w / 256 / 256 = omega arith in
@@ -193,9 +120,8 @@ turned w h =
     let f : w / 1099511627776 ≡ w / 4294967296 / 256 = omega arith in
     let g : w / 281474976710656 ≡ w / 1099511627776 / 256 = omega arith in
     let k : w / 72057594037927936 ≡ w / 281474976710656 / 256 = omega arith in
-    let t : w / 72057594037927936 ≡ w / 72057594037927936 % 256 = omega arith in
-    high_sum (w % 256) (w / 256 % 256) (w / 65536 % 256) (w / 16777216 % 256) (w / 4294967296 % 256) (w / 1099511627776 % 256) (w / 281474976710656 % 256) (w / 72057594037927936)
-    ∙ rw (t, k, g, f, e, d, c)
+    high_sum (w % 256) (w / 256 % 256) (w / 65536 % 256) (w / 16777216 % 256) (w / 4294967296 % 256) (w / 1099511627776 % 256) (w / 281474976710656 % 256) (w / 72057594037927936 % 256)
+    ∙ rw (k, g, f, e, d, c)
 
 -- a number that is less after its first bytes stays so, whatever follows
 number_less : (n x y : ℕ) (a b : Bytes) → n ≤ length a → n ≤ length b → ((i : ℕ) → get_or a i 0 < 256) → x < y → number x (take n a) < number y (take n b)
@@ -272,6 +198,33 @@ lower_past (suc k) (x ∷ a) (y ∷ b) h g e l =
     let q : take k a ≡ take k b = cc in
     lower_more x y a b p (lower_past k a b (omega arith) (omega arith) q l)
 
+-- and in the first n bytes of each
+lower_take : (n : ℕ) (a b : Bytes) → Lower (take n a) (take n b) → Lower a b
+lower_take n a b l =
+    let s = l.shares in
+    let h = l.left in
+    let g = l.right in
+    let p : l.at < n = omega (arith, length-take n a) in
+    let x : get_or (take n a) l.at 0 ≡ get_or a l.at 0 = get_or-take n a l.at 0 p in
+    let y : get_or (take n b) l.at 0 ≡ get_or b l.at 0 = get_or-take n b l.at 0 p in
+    let less : get_or a l.at 0 < get_or b l.at 0 = omega (arith, l.less) in
+    record {
+      at = l.at;
+      shares = record {
+        left = omega (arith, length-take n a);
+        right = omega (arith, length-take n b);
+        alike = sym (take-take l.at n a (omega arith)) ∙ s.alike ∙ take-take l.at n b (omega arith);
+        stop = λ _ _ e. omega (arith, e, less);
+      };
+      left = omega (arith, length-take n a);
+      right = omega (arith, length-take n b);
+      less = less;
+    }
+
+-- the eight bytes that a number says are bytes
+low_eight : {s : Bytes} {k w : ℕ} → LowAt s k w → (i : ℕ) → get_or (take 8 (drop k s)) i 0 < 256
+low_eight {s} {k} {w} p i = rw (sym p.back) (low_of 8 w i)
+
 -- so of two names with k bytes alike the number of the next eight decides
 pub lower_at : (k : ℕ) (a b : Bytes) → k + 8 ≤ length a → k + 8 ≤ length b → ((i : ℕ) → get_or b i 0 < 256) → take k a ≡ take k b → number 0 (take 8 (drop k a)) < number 0 (take 8 (drop k b)) → Lower a b
 lower_at k a b h g l q t =
@@ -324,31 +277,41 @@ pub passed_begin : (a b : Bytes) (n : ℕ) → Passed a b n 0
 passed_begin a b n = record { within = omega arith; same = refl }
 
 module _ {a b : Bytes} {n i : ℕ} (at : Passed a b n i) where
-  pub passed_end : n < i + 8 → AlikeTo a b n i
-  passed_end h = record { within = at.within; same = at.same; stop = λ g. absurd (omega arith) }
+  pub passed_end : {j : ℕ} → j ≡ i → n < i + 8 → AlikeTo a b n j
+  passed_end e h = rw e (record { within = at.within; same = at.same; stop = λ g. absurd (omega arith) })
 
   module _ {x y : ℕ} where
-    pub passed_more : i + 8 ≤ n → LowAt a i x → LowAt b i y → x ≡ y → Passed a b n (i + 8)
-    passed_more h p q e = record { within = h; same = eight_more i a b at.same (alike_block p q e) }
+    pub passed_more : {j : ℕ} → j ≡ i + 8 → i + 8 ≤ n → LowAt a i x → LowAt b i y → x ≡ y → Passed a b n j
+    passed_more f h p q e = rw f (record { within = h; same = eight_more i a b at.same (alike_block p q e) })
 
     pub passed_differ : LowAt a i x → LowAt b i y → (x ≡ y → ⊥) → AlikeTo a b n i
     passed_differ p q ne = record { within = at.within; same = at.same; stop = λ _ e. ne (p.is ∙ ap low_number e ∙ sym q.is) }
 
 -- The order of two names by their first eight bytes that differ.
-module _ {a b : Bytes} {n i : ℕ} (s : AlikeTo a b n i) (h : i + 8 ≤ n) (left : n ≤ length a) (right : n ≤ length b) (la : (j : ℕ) → get_or a j 0 < 256) (lb : (j : ℕ) → get_or b j 0 < 256) where
-  pub eight_less : number 0 (take 8 (drop i a)) < number 0 (take 8 (drop i b)) → (x y : Bool) → Ordering.lt ≡ cmp (as_kind x a) (as_kind y b)
-  eight_less t = lower_less (lower_at i a b (omega arith) (omega arith) lb s.same t)
+module _ {a b : Bytes} {n i v w : ℕ} (s : AlikeTo a b n i) (h : i + 8 ≤ n) (left : n ≤ length a) (right : n ≤ length b) (p : LowAt a i v) (q : LowAt b i w) where
+  lower_here : {a b : Bytes} {v w : ℕ} → i + 8 ≤ length a → i + 8 ≤ length b → take i a ≡ take i b → LowAt a i v → LowAt b i w → number 0 (bytes_of 8 v) < number 0 (bytes_of 8 w) → Lower a b
+  lower_here {a} {b} {v} {w} f g e p q t =
+      let x : take 8 (take 8 (drop i a)) ≡ bytes_of 8 v = take-take 8 8 (drop i a) (omega arith) ∙ sym p.back in
+      let y : take 8 (take 8 (drop i b)) ≡ bytes_of 8 w = take-take 8 8 (drop i b) (omega arith) ∙ sym q.back in
+      let l : length (take 8 (drop i a)) ≡ 8 = length-take-le 8 (drop i a) (omega (arith, length-drop i a)) in
+      let m : length (take 8 (drop i b)) ≡ 8 = length-take-le 8 (drop i b) (omega (arith, length-drop i b)) in
+      lower_past i a b (omega arith) (omega arith) e
+      (lower_take 8 (drop i a) (drop i b) (lower_first 8 0 (take 8 (drop i a)) (take 8 (drop i b)) (omega arith) (omega arith) (low_eight q) (rw (x, y) t)))
 
-  eight_other : number 0 (take 8 (drop i a)) ≡ number 0 (take 8 (drop i b)) → ⊥
-  eight_other e =
-      s.stop h
-      (number_same 8 0 (drop i a) (drop i b) (omega (arith, length-drop i a)) (omega (arith, length-drop i b)) (λ j. rw (get_or-drop i a j 0) (la (i + j))) (λ j. rw (get_or-drop i b j 0) (lb (i + j))) e)
+  -- where the two numbers are the same, so are the bytes
+  other_number : number 0 (bytes_of 8 v) ≡ number 0 (bytes_of 8 w) → ⊥
+  other_number e =
+      let l : length (take 8 (drop i a)) ≡ 8 = length-take-le 8 (drop i a) (omega (arith, length-drop i a)) in
+      let m : length (take 8 (drop i b)) ≡ 8 = length-take-le 8 (drop i b) (omega (arith, length-drop i b)) in
+      let x : take 8 (take 8 (drop i a)) ≡ bytes_of 8 v = take-take 8 8 (drop i a) (omega arith) ∙ sym p.back in
+      let y : take 8 (take 8 (drop i b)) ≡ bytes_of 8 w = take-take 8 8 (drop i b) (omega arith) ∙ sym q.back in
+      let z = number_same 8 0 (take 8 (drop i a)) (take 8 (drop i b)) (omega arith) (omega arith) (low_eight p) (low_eight q) (rw (x, y) e) in
+      s.stop h (sym (take-take 8 8 (drop i a) (omega arith)) ∙ z ∙ take-take 8 8 (drop i b) (omega arith))
 
-  pub eight_greater : number 0 (take 8 (drop i b)) ≤ number 0 (take 8 (drop i a)) → (x y : Bool) → Ordering.gt ≡ cmp (as_kind x a) (as_kind y b)
-  eight_greater t = lower_greater (lower_at i b a (omega arith) (omega arith) la (sym s.same) (go (ltb (number 0 (take 8 (drop i b))) (number 0 (take 8 (drop i a)))) refl))
+  pub eight_tells : {o : std.Ordering} → o ≡ nat_cmp (number 0 (bytes_of 8 v)) (number 0 (bytes_of 8 w)) → (x y : Bool) → as_ordering o ≡ cmp (as_kind x a) (as_kind y b)
+  eight_tells e x y = ap as_ordering e ∙ go (nat_cmp (number 0 (bytes_of 8 v)) (number 0 (bytes_of 8 w))) (ranks (number 0 (bytes_of 8 v)) (number 0 (bytes_of 8 w)))
     where
-      go : (q : Bool) → ltb (number 0 (take 8 (drop i b))) (number 0 (take 8 (drop i a))) ≡ q → number 0 (take 8 (drop i b)) < number 0 (take 8 (drop i a))
-      go true e = ltb-true _ _ e
-      go false e =
-          let z : number 0 (take 8 (drop i a)) ≤ number 0 (take 8 (drop i b)) = ltb-false (number 0 (take 8 (drop i b))) (number 0 (take 8 (drop i a))) e in
-          absurd (eight_other (omega arith))
+      go : (o : std.Ordering) → MatchOrdering o (number 0 (bytes_of 8 v) < number 0 (bytes_of 8 w)) (number 0 (bytes_of 8 v) ≡ number 0 (bytes_of 8 w)) (number 0 (bytes_of 8 w) < number 0 (bytes_of 8 v)) → as_ordering o ≡ cmp (as_kind x a) (as_kind y b)
+      go Less t = lower_less (lower_here (omega arith) (omega arith) s.same p q t) x y
+      go Equal t = absurd (other_number t)
+      go Greater t = lower_greater (lower_here (omega arith) (omega arith) (sym s.same) q p t) x y

@@ -22,8 +22,8 @@ use Rattle.names.specs.Check.{TreeSize, size_of, is_less, names_of, tree_among, 
 use Rattle.names.specs.Standings.{StandsIn, StandsAs}
 use Rattle.names.specs.declared.neighbour.Standing.{Standing}
 use Rattle.names.specs.declared.neighbour.Standing.TheVariants.{Apart, Within, Wrong}
-use Rattle.names.specs.declared.order.Order.{Order}
-use Rattle.names.specs.declared.order.Order.TheVariants.{Less, Equal, Greater}
+use Rattle.std.specs.declared.cmp.Ordering as std
+use Rattle.std.specs.declared.cmp.Ordering.TheVariants.{Less, Equal, Greater}
 use Rattle.names.proofs.FollowLaws.{is_less_lem, after_less, after_all, Proper, proper, none_after, early}
 use Rattle.names.proofs.StandingLaws.{good_plain}
 
@@ -51,7 +51,7 @@ module _ {later : Option Tree} {name : Bytes} {here : Option Tree} (s : Twinning
   pub twin_damaged : {b : Bool} → here ≡ none → TwinIs name later b
   twin_damaged h = record { is = λ es p. let x = s.rest es p in none_some x.0 (sym h ∙ x.1) }
 
-  module _ {d : Entry} {there : Option Tree} (e : Begins here d there) (o : Order) (eo : as_ordering o ≡ cmp (key d) (as_kind true name)) where
+  module _ {d : Entry} {there : Option Tree} (e : Begins here d there) (o : std.Ordering) (eo : as_ordering o ≡ cmp (key d) (as_kind true name)) where
     next_one : (es : Tree) → later ≡ some es → (cs : Tree) × (there ≡ some cs) × (tree_among name es ≡ by (as_ordering o) (tree_among name cs) true false)
     unfolding tree_among
     next_one es p = go there refl
@@ -64,13 +64,13 @@ module _ {later : Option Tree} {name : Bytes} {here : Option Tree} (s : Twinning
             (cs, f, x.2 ∙ ap (tree_among name) (sym g) ∙ rw eo)
 
     pub twin_less : o ≡ Less → Twinning later name there
-    twin_less f = record { rest = λ es p. let x = next_one es p in (x.0, x.1, x.2 ∙ ap (λ (q : Order). by (as_ordering q) (tree_among name x.0) true false) f) }
+    twin_less f = record { rest = λ es p. let x = next_one es p in (x.0, x.1, x.2 ∙ ap (λ (q : std.Ordering). by (as_ordering q) (tree_among name x.0) true false) f) }
 
     pub twin_equal : o ≡ Equal → TwinIs name later true
-    twin_equal f = record { is = λ es p. let x = next_one es p in sym (x.2 ∙ ap (λ (q : Order). by (as_ordering q) (tree_among name x.0) true false) f) }
+    twin_equal f = record { is = λ es p. let x = next_one es p in sym (x.2 ∙ ap (λ (q : std.Ordering). by (as_ordering q) (tree_among name x.0) true false) f) }
 
     pub twin_greater : o ≡ Greater → TwinIs name later false
-    twin_greater f = record { is = λ es p. let x = next_one es p in sym (x.2 ∙ ap (λ (q : Order). by (as_ordering q) (tree_among name x.0) true false) f) }
+    twin_greater f = record { is = λ es p. let x = next_one es p in sym (x.2 ∙ ap (λ (q : std.Ordering). by (as_ordering q) (tree_among name x.0) true false) f) }
 
 -- The check follows the entries: a tree is well formed exactly if its entries may follow nothing.
 six_tests : (a b c d e f g : Bool) → b ≡ true → ((a && b && c) && (d && e) && (f && g)) ≡ (a && (d && (f && (c && e && g))))
@@ -92,9 +92,9 @@ well_from w k (e ∷ es) h =
     ∙ ap (λ (z : Bool). good_name e.name && (is_less (cmp k (key e)) && (not (among e.name (names_of es)) && z))) (well_from w (key e) es h.1)
 
 -- nothing is before every good name
-first_above : (n : Bytes) (tree : Bool) → good_name n ≡ true → cmp [] (as_kind tree n) ≡ Ordering.lt
+first_above : (n : Bytes) (t : Bool) → good_name n ≡ true → cmp [] (as_kind t n) ≡ Ordering.lt
 unfolding good_name
-first_above [] tree h = absurd (let z : ◌≡◌ {A = ℕ} 0 1 = cc in omega arith)
+first_above [] t h = absurd (let z : ◌≡◌ {A = ℕ} 0 1 = cc in omega arith)
 first_above (x ∷ n) true h = refl
 first_above (x ∷ n) false h = refl
 
@@ -160,6 +160,10 @@ module _ {p : Bytes} {pt : Bool} {n : Bytes} {t : Bool} {later : Option Tree} {o
 
     pub fit_alone : b ≡ false → FitsIs p pt n t later true
     fit_alone h = record { may = λ q. inside.0; is = λ es q w. rw (inside.0, there es q w, h) }
+
+    -- so the search decides
+    pub fit_within : FitsIs p pt n t later (not b)
+    fit_within = record { may = λ q. inside.0; is = λ es q w. rw (inside.0, there es q w) }
 
 past_cons : (n b : ℕ) (p : Bytes) (pt : Bool) (e : Entry) (es : Tree) →
     check_past n b p pt (some (e ∷ es)) ≡ cond (besides p pt e.name (is_tree e.mode) && not (among p (names_of es))) (check_past (n + 1) (b + length e.name) e.name (is_tree e.mode) (some es)) none

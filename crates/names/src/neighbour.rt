@@ -4,25 +4,19 @@ ghost use Rattle.model.specs.Tree.{good_name};
 ghost use Rattle.names.specs.Check.{Shares, plain, plain_from};
 ghost use Rattle.names.specs.Standings.{StandsAs};
 
+use crate::order::Key;
+
 // Whether a name has neither slash nor NUL from place `from` on.
 pub fn plain_from(name: &[u8], from: usize) -> bool
     ensures { result ≡ plain_from name.now from }
 {
-    let mut i = from;
-    while i < name.len() {
-        if name[i] == 47 {
-            return false;
-        }
-        if name[i] == 0 {
-            return false;
-        }
-        i += 1;
-    }
-    true
+    crate::part::after(name, from)
+        .iter()
+        .all(|&b| b != 47 && b != 0)
 }
 
 // How an entry stands to the one before it: it may follow, and no later one has the name of the one before; it may follow; it may not.
-#[derive(Clone, Copy)]
+#[derive(Clone, Copy, PartialEq, Eq)]
 pub enum Standing {
     Apart,
     Within,
@@ -30,20 +24,20 @@ pub enum Standing {
 }
 
 // How two entries stand to each other whose names begin with i bytes alike and have neither slash nor NUL.
-fn step_at(prev: &[u8], prev_tree: bool, name: &[u8], tree: bool, i: usize) -> Standing
-    requires { Shares prev.now name.now i × (plain prev.now ≡ true) × (good_name name.now ≡ true) }
-    ensures { StandsAs prev.now prev_tree name.now tree result }
+fn step_at(prev: Key<'_>, next: Key<'_>, i: usize) -> Standing
+    requires { Shares prev.name.now next.name.now i × (plain prev.name.now ≡ true) × (good_name next.name.now ≡ true) }
+    ensures { StandsAs prev.entry.name.now prev.entry.tree next.entry.name.now next.entry.tree result }
 {
-    if i < prev.len() {
-        if i < name.len() {
-            return if prev[i] < name[i] {
+    if i < prev.name.len() {
+        if i < next.name.len() {
+            return if prev.name[i] < next.name[i] {
                 Standing::Apart
             } else {
                 Standing::Wrong
             };
         }
-        if tree {
-            return if prev[i] < 47 {
+        if next.tree {
+            return if prev.name[i] < 47 {
                 Standing::Apart
             } else {
                 Standing::Wrong
@@ -51,11 +45,11 @@ fn step_at(prev: &[u8], prev_tree: bool, name: &[u8], tree: bool, i: usize) -> S
         }
         return Standing::Wrong;
     }
-    if i < name.len() {
-        if 47 < name[i] {
+    if i < next.name.len() {
+        if 47 < next.name[i] {
             return Standing::Apart;
         }
-        return if prev_tree {
+        return if prev.tree {
             Standing::Wrong
         } else {
             Standing::Within
@@ -65,19 +59,16 @@ fn step_at(prev: &[u8], prev_tree: bool, name: &[u8], tree: bool, i: usize) -> S
 }
 
 // How an entry stands to the one before it, whose name has neither slash nor NUL: so of its own name only what is not shared with that is looked at.
-pub fn step(prev: &[u8], prev_tree: bool, name: &[u8], tree: bool) -> Standing
-    requires { plain prev.now ≡ true }
-    ensures { StandsAs prev.now prev_tree name.now tree result }
+pub fn step(prev: Key<'_>, next: Key<'_>) -> Standing
+    requires { plain prev.name.now ≡ true }
+    ensures { StandsAs prev.entry.name.now prev.entry.tree next.entry.name.now next.entry.tree result }
 {
-    if name.len() == 0 {
+    if next.name.is_empty() || 255 < next.name.len() {
         return Standing::Wrong;
     }
-    if 255 < name.len() {
-        return Standing::Wrong;
-    }
-    let i = crate::order::shared(prev, name);
-    if plain_from(name, i) {
-        step_at(prev, prev_tree, name, tree, i)
+    let i = crate::order::shared(prev.name, next.name);
+    if plain_from(next.name, i) {
+        step_at(prev, next, i)
     } else {
         Standing::Wrong
     }

@@ -3,14 +3,14 @@ use native.Mathlib.Omega.{arith}
 use Rattle.names.proofs.EightLaws.{passed_begin, passed_more, passed_differ, passed_end}
 use Rattle.names.proofs.eight.alike_front.Goals as goal
 
-pub loop-i-init : goal.loop-i-init
-loop-i-init c = passed_begin _ _ _
+pub loop-k-init : goal.loop-k-init
+loop-k-init c = passed_begin _ _ _
 
 pub returns-then-low_at : goal.returns-then-low_at
-returns-then-low_at c = passed_differ c.loop-i.invariant c.low_at.ensures c.low_at-in-loop-i.ensures c.if-low_at.true
+returns-then-low_at c = passed_differ c.loop-k.invariant c.low_at.ensures c.low_at-in-loop-k.ensures c.if-low_at.true
 
-pub loop-i-preserved : goal.loop-i-preserved
-loop-i-preserved c = passed_more c.loop-i.invariant (omega arith) c.low_at.ensures c.low_at-in-loop-i.ensures c.if-low_at.false
+pub loop-k-preserved : goal.loop-k-preserved
+loop-k-preserved c = passed_more c.loop-k.invariant (omega arith) (omega arith) c.low_at.ensures c.low_at-in-loop-k.ensures c.if-low_at.false
 
 pub returns : goal.returns
-returns c = passed_end c.loop-i.invariant (omega arith)
+returns c = passed_end c.loop-k.invariant (omega arith) (omega arith)

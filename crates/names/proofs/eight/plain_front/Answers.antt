@@ -1,22 +1,24 @@
 -- `names::eight::plain_front` meets its contract: the eights passed are plain, and one that is not ends the front. Assumes nothing.
-use mathlib.Core.Path.{sym, ◌∙◌}
+use Prim.Native.Nat.{◌*◌, ◌/◌}
+use mathlib.Core.Path.{◌≡◌, sym, ◌∙◌}
 use native.Mathlib.Omega.{arith}
-use Rattle.model.proofs.Basics.{not_false}
+use lib.ListN.{length}
 use Rattle.names.proofs.EightLaws.{front_begin, front_more}
 use Rattle.names.proofs.eight.plain_front.Goals as goal
 
-pub loop-i-init : goal.loop-i-init
-loop-i-init c = front_begin _
+pub loop-k-init : goal.loop-k-init
+loop-k-init c = front_begin _
 
-pub returns-then-not-plain_eight : goal.returns-then-not-plain_eight
-returns-then-not-plain_eight c =
-    let at = c.loop-i.invariant in
+pub returns-then-not-plain_block : goal.returns-then-not-plain_block
+returns-then-not-plain_block c =
+    let at = c.loop-k.invariant in
     (at.within, at.good)
 
-pub loop-i-preserved : goal.loop-i-preserved
-loop-i-preserved c = front_more c.loop-i.invariant (omega arith) (sym c.plain_eight.ensures ∙ not_false _ c.if-not-plain_eight.false-raw)
+pub loop-k-preserved : goal.loop-k-preserved
+loop-k-preserved c = front_more 8 c.loop-k.invariant (omega arith) (sym c.plain_block.ensures ∙ c.if-not-plain_block.false) (omega arith)
 
 pub returns : goal.returns
 returns c =
-    let at = c.loop-i.invariant in
-    (at.within, at.good)
+    let at = c.loop-k.invariant in
+    let e : length c.args.s.now / 8 * 8 ≡ 8 * c.loop-k.k = omega arith in
+    rw e (at.within, at.good)

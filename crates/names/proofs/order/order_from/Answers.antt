@@ -1,26 +1,28 @@
 -- `names::order::order_from` meets its contract: the bytes passed are alike on both sides, so those that are left decide. Assumes nothing.
 use native.Mathlib.Omega.{arith}
-use Rattle.names.proofs.OrderLaws.{ends_left, ends_right, ends_both, byte_less, byte_more, byte_same}
-use Rattle.names.proofs.StandingLaws.{shares_compare}
+use mathlib.Core.Path.{◌≡◌, sym, ◌∙◌}
+use Prim.Native.Nat.{min}
+use lib.ListN.{length}
+use Rattle.model.specs.Tree.{as_kind}
+use Rattle.names.proofs.OrderLaws.{byte_other, byte_same, lengths_tell}
+use Rattle.names.proofs.StandingLaws.{key_long, shares_compare}
 use Rattle.names.proofs.order.order_from.Goals as goal
 
 pub loop-i-init : goal.loop-i-init
-loop-i-init c = shares_compare c.requires c.args.a_tree c.args.b_tree
+loop-i-init c = shares_compare c.requires c.args.a.tree c.args.b.tree
 
-pub returns-then-m-i : goal.returns-then-m-i
-returns-then-m-i c = ends_left c.loop-i.invariant (omega arith) (omega arith)
-
-pub returns-then-x-y : goal.returns-then-x-y
-returns-then-x-y c = byte_less c.loop-i.invariant c.key_byte-x.ensures c.key_byte-y.ensures (omega arith) (omega arith) c.if-x-y.true
-
-pub returns-then-y-x : goal.returns-then-y-x
-returns-then-y-x c = byte_more c.loop-i.invariant c.key_byte-x.ensures c.key_byte-y.ensures (omega arith) (omega arith) c.if-y-x.true
+pub returns-then-is_ne : goal.returns-then-is_ne
+returns-then-is_ne c = byte_other c.loop-i.invariant c.byte.ensures c.byte-in-loop-i.ensures (omega arith) (omega arith) c.cmp-order.ensures (sym c.is_ne.ensures ∙ c.if-is_ne.true)
 
 pub loop-i-preserved : goal.loop-i-preserved
-loop-i-preserved c = byte_same c.loop-i.invariant c.key_byte-x.ensures c.key_byte-y.ensures (omega arith) (omega arith) c.if-x-y.false c.if-y-x.false
+loop-i-preserved c = byte_same c.loop-i.invariant c.byte.ensures c.byte-in-loop-i.ensures (omega arith) (omega arith) c.cmp-order.ensures (sym c.is_ne.ensures ∙ c.if-is_ne.false)
 
-pub returns-then-i-m : goal.returns-then-i-m
-returns-then-i-m c = ends_right c.loop-i.invariant (omega arith) (omega arith)
-
-pub returns-else-i-m : goal.returns-else-i-m
-returns-else-i-m c = ends_both c.loop-i.invariant (omega arith) (omega arith)
+pub returns : goal.returns
+returns c =
+    let a = c.args.a in
+    let b = c.args.b in
+    let p = key_long a.tree a.name.now c.args.from c.requires.left in
+    let q = key_long b.tree b.name.now c.args.from c.requires.right in
+    let e : c.loop-i.i ≡ min (length (as_kind a.tree a.name.now)) (length (as_kind b.tree b.name.now)) =
+    omega (arith, p, q, c.loop-i.auto.i-end, c.loop-i-test.false, c.min-i-end.ensures, c.len-n.ensures, c.len-m.ensures) in
+    lengths_tell c.loop-i.invariant e (c.cmp.ensures ∙ rw (c.len-n.ensures, c.len-m.ensures))

@@ -1,5 +1,6 @@
 -- `names::order::shared_from` meets its contract: the bytes passed are alike, and the first that differ or an end stops it. Assumes nothing.
 use native.Mathlib.Omega.{arith}
+use mathlib.Core.Path.{◌≡◌}
 use Rattle.names.proofs.StandingLaws.{alike_begin, alike_more, alike_differ, alike_end}
 use Rattle.names.proofs.order.shared_from.Goals as goal
 
@@ -23,4 +24,6 @@ pub loop-i-preserved : goal.loop-i-preserved
 loop-i-preserved c = alike_more c.loop-i.invariant c.loop-i-test.true c.if-a-i.false
 
 pub returns : goal.returns
-returns c = alike_end c.loop-i.invariant c.loop-i-test.false
+returns c =
+    let e : c.loop-i.i ≡ c.args.n = omega (arith, c.loop-i.invariant.within) in
+    rw e at (alike_end c.loop-i.invariant c.loop-i-test.false)

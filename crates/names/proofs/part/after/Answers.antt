@@ -1,16 +1,11 @@
 -- `names::part::after` meets its contract: past the end nothing is left. Assumes nothing.
-use lib.ListN.{drop_of_length-le}
-use native.Mathlib.Omega.{arith}
-use mathlib.Core.Path.{sym}
+use mathlib.Core.Path.{ap, ◌∙◌}
+use lib.ListN.{drop}
+use Rattle.std.proofs.lemmas.List.{drop_min}
 use Rattle.names.proofs.PathLaws.{rest_part}
 use Rattle.names.proofs.part.after.Goals as goal
 
-pub returns-then-k-s : goal.returns-then-k-s
-returns-then-k-s c =
-    let a = c.args in
-    rest_part a.s.now a.k
-
-pub returns-else-k-s : goal.returns-else-k-s
-returns-else-k-s c =
-    let a = c.args in
-    sym (drop_of_length-le a.s.now {i = a.k} (omega arith))
+pub returns : goal.returns
+returns c =
+    let s = c.args.s.now in
+    rest_part s c.min.result ∙ ap (λ n. drop n s) c.min.ensures ∙ drop_min c.args.k s

@@ -1,17 +1,21 @@
--- `names::path::filename` meets its contract: no byte from the place on is a slash, so the one before the place decides. Assumes nothing.
-use mathlib.Core.Path.{◌∙◌}
-use native.Mathlib.Omega.{arith}
-use Rattle.names.proofs.PathLaws.{behind_all, last_slash, no_slash, all_clear, rest_part}
+-- `names::path::filename` meets its contract: the bytes before the first slash from the end are the name. Assumes nothing.
+use borrow.Author.Rules.{rules}
+use borrow.Author.Tests.{tests}
+use mathlib.Core.Path.{◌≡◌, ◌∙◌, subst}
+use lib.ListN.{length}
+use Prim.Native.Nat.{◌-◌}
+use Rattle.std.proofs.lemmas.Iterator.{IsFirst-from_position}
+use Rattle.std.proofs.lemmas.Iterator.Adapters.{YieldsList-from_rev_slice}
+use Rattle.names.proofs.PathLaws.{rest_part, NamePart, base_first}
 use Rattle.names.proofs.path.filename.Goals as goal
 
-pub loop-k-init : goal.loop-k-init
-loop-k-init c = behind_all _
+pub returns-in-Some : goal.returns-in-Some
+returns-in-Some c =
+    rest_part c.args.path.now (length c.args.path.now - c.in-Some.n)
+    ∙ subst (NamePart c.args.path.now) c.in-Some.is
+    (base_first _ _ (IsFirst-from_position _ _ _ (λ b. b ≡ 47) (λ b. b ≡ 47 → ⊥) c.position.ensures.ran (YieldsList-from_rev_slice c.args.path.now cc) (λ x q k. search (rules, tests)) (λ x q k. search (rules, tests))))
 
-pub returns-then-path-j-eq47 : goal.returns-then-path-j-eq47
-returns-then-path-j-eq47 c = rest_part c.args.path.now c.loop-k.k ∙ last_slash c.loop-k.invariant c.loop-k-test.true c.if-path-j-eq47.true
-
-pub loop-k-preserved : goal.loop-k-preserved
-loop-k-preserved c = no_slash c.loop-k.invariant c.loop-k-test.true c.if-path-j-eq47.false
-
-pub returns : goal.returns
-returns c = all_clear c.loop-k.invariant (omega arith)
+pub returns-in-None : goal.returns-in-None
+returns-in-None c =
+    subst (NamePart c.args.path.now) c.in-None.is
+    (base_first _ _ (IsFirst-from_position _ _ _ (λ b. b ≡ 47) (λ b. b ≡ 47 → ⊥) c.position.ensures.ran (YieldsList-from_rev_slice c.args.path.now cc) (λ x q k. search (rules, tests)) (λ x q k. search (rules, tests))))

@@ -2,17 +2,17 @@
 use Rattle.names.proofs.RefusalLaws.{scan_begin, scan_end, scan_nul, scan_long, scan_more}
 use Rattle.names.proofs.path.has_bad_bytes.Goals as goal
 
-pub loop-i-init : goal.loop-i-init
-loop-i-init c = scan_begin _
+pub loop-b-init : goal.loop-b-init
+loop-b-init c = scan_begin _
 
 pub returns-then-b-eq0 : goal.returns-then-b-eq0
-returns-then-b-eq0 c = scan_nul c.loop-i.invariant c.loop-i-test.true c.if-b-eq0.true
+returns-then-b-eq0 c = scan_nul c.loop-b.invariant c.loop-b-test.true c.if-b-eq0.true
 
 pub returns-then-run-gt255 : goal.returns-then-run-gt255
-returns-then-run-gt255 c = scan_long c.loop-i.invariant c.loop-i-test.true c.if-b-eq0.false c.run_after-run.ensures c.if-run-gt255.true
+returns-then-run-gt255 c = scan_long c.loop-b.invariant c.loop-b-test.true c.if-b-eq0.false c.run_after-run.ensures c.if-run-gt255.true
 
-pub loop-i-preserved : goal.loop-i-preserved
-loop-i-preserved c = scan_more c.loop-i.invariant c.loop-i-test.true c.if-b-eq0.false c.run_after-run.ensures c.if-run-gt255.false
+pub loop-b-preserved : goal.loop-b-preserved
+loop-b-preserved c = scan_more c.loop-b.invariant c.loop-b-test.true c.if-b-eq0.false c.run_after-run.ensures c.if-run-gt255.false
 
 pub returns : goal.returns
-returns c = scan_end c.loop-i.invariant c.loop-i-test.false
+returns c = scan_end c.loop-b.invariant c.loop-b-test.false

@@ -1,4 +1,6 @@
 -- `names::path::has_bad_part` meets its contract: the components that have ended are good, and the bytes of the one at hand are no NULs; so what is left decides. Assumes nothing.
+use lib.ListN.{length}
+use mathlib.Core.Path.{◌≡◌}
 use native.Mathlib.Omega.{arith}
 use Rattle.names.proofs.ValidLaws.{part_front, part_end, part_nul, part_other, part_bad, part_next}
 use Rattle.names.proofs.path.has_bad_part.Goals as goal
@@ -24,4 +26,6 @@ loop-i-preserved c =
     ]
 
 pub returns : goal.returns
-returns c = part_end c.loop-i.invariant c.loop-i-test.false c.is_bad_len-2.ensures
+returns c =
+    let e : c.loop-i.i ≡ length c.args.path.now = omega (arith, c.loop-i.invariant.within) in
+    part_end c.loop-i.invariant c.loop-i-test.false (rw e c.is_bad_len-2.ensures)
