@@ -3,7 +3,7 @@ use Prim.Native.Nat.{ℕ, zero, suc, ◌+◌, ◌-◌, ◌≤◌, ◌<◌}
 use mathlib.Core.Path.{◌≡◌, refl, sym, ap, ◌∙◌, subst}
 use mathlib.Core.List.{[], ◌∷◌, ◌++◌, append_assoc}
 use mathlib.Core.Option.{Option, none, some}
-use mathlib.Core.Bool.{Bool, true, false, cond, not, ◌&&◌}
+use mathlib.Core.Bool.{Bool, true, false, cond, ◌&&◌}
 use native.Mathlib.Nat.{add-zero}
 use native.Mathlib.Numerals.{add-one}
 use native.Mathlib.Omega.{arith}
@@ -11,22 +11,19 @@ use lib.Dec.{eqb, leb, ltb}
 use lib.ListN.{length, take, drop, get_or, length-append, length-drop, take-append-drop, drop_of_length-le}
 use lib.Seq.{drop-drop, drop-cons, get_or-drop, take_at, drop_at, length-take-le}
 use borrow.Author.Tests.{le-leb, lt-leb, leb-true, leb-false, lt-ltb, le-ltb, ltb-true, ne_eqb}
-use Rattle.model.specs.Bytes.{Bytes, cmp, same}
-use Rattle.model.specs.Tree.{Mode, TREE, BLOB, EXEC, LINK, COMMIT, is_tree, Entry, Tree, as_kind, key, well_formed, name_bytes}
+use Rattle.model.specs.Bytes.{Bytes, same}
+use Rattle.model.specs.Tree.{Mode, TREE, BLOB, EXEC, LINK, COMMIT, is_tree, Entry, Tree, well_formed, name_bytes}
 use Rattle.model.specs.Raw.{more, if_good}
 use Rattle.model.proofs.Basics.{none_some, some_inj, and_false}
 use Rattle.model.proofs.ByteLaws.{same_eq, same_refl}
 use Rattle.model.proofs.RawLaws.{more_inv, well_entries}
-use Rattle.names.specs.Check.{Wide, TreeSize, TwinIs, FitsIs, size_of}
-use Rattle.names.specs.Standings.{StandsAs}
-use Rattle.names.specs.declared.neighbour.Standing.{Standing}
-use Rattle.names.specs.declared.neighbour.Standing.TheVariants.{Within}
+use Rattle.names.specs.Check.{Wide, TreeSize, size_of}
 use Rattle.names_compact.specs.Compact.{kind_of, mode_at, packed, packed_all, unpack, Run}
 use Rattle.names_compact.specs.Judge.{end_at, end_as, entry_held, held_next, held_from, held_at, compact_tree}
 use Rattle.names_compact.proofs.CompactLaws.{mode_kind, wide_good, unpacked}
 use Rattle.std.specs.Prelude as code
 use Rattle.std.specs.Prelude.{Some, None}
-use Rattle.names.proofs.FitLaws.{Begins, Twinning, twin_end, twin_damaged, fit_twin, fit_alone}
+use Rattle.names.proofs.FitLaws.{Begins}
 
 -- Where an entry ends.
 module _ (b : Bytes) (w at : ℕ) where
@@ -160,12 +157,12 @@ module _ (b : Bytes) (w at : ℕ) {r : code.Option ℕ} (er : end_as r ≡ end_a
   read_whole e = sym er ∙ ap end_as e
 
   -- nothing more is read: there is no more, or it is no entry
-  pub read_over : {name : Bytes} {later : Option Tree} → Twinning later name (held_at b w at) → r ≡ None → TwinIs name later false
-  read_over {name} {later} s e = go (leb (length b) at) refl
+  pub read_none : r ≡ None → (t : Tree) → held_at b w at ≡ some t → t ≡ []
+  read_none e t h = go (leb (length b) at) refl
     where
-      go : (t : Bool) → leb (length b) at ≡ t → TwinIs name later false
-      go true q = twin_end s (held_end b w at (leb-true _ _ q))
-      go false q = twin_damaged s (read_damaged (leb-false _ _ q) e)
+      go : (q : Bool) → leb (length b) at ≡ q → t ≡ []
+      go true q = some_inj t [] (sym h ∙ held_end b w at (leb-true _ _ q))
+      go false q = none_some t (sym (read_damaged (leb-false _ _ q) e) ∙ h)
 
 module _ (b : Bytes) (w at : ℕ) {next : ℕ} (e : end_at b w at ≡ some next) where
   pub whole_begins : Begins (held_at b w at) (entry_held b w at) (held_at b w next)
@@ -185,18 +182,10 @@ module _ (b : Bytes) (w at : ℕ) {next : ℕ} (e : end_at b w at ≡ some next)
         let x = ends b w at e in
         omega (arith, ap length en, name_whole b w at next x, x.is)
 
-    pub whole_key : {tree : Bool} → tree ≡ is_tree (entry_held b w at).mode → (l : Bytes) → cmp (as_kind tree name) l ≡ cmp (key (entry_held b w at)) l
-    whole_key et l = rw (en, et)
-
     pub whole_short : ((i : ℕ) → get_or b i 0 < 256) → length name ≤ 255
     whole_short low =
         let x = ends b w at e in
         omega (arith, ap length en, name_whole b w at next x, low (at + 1))
-
--- an entry whose name goes on with the one before may follow where the tree of that name is not among those after it
-pub fit_within : {p n : Bytes} {pt t : Bool} {later : Option Tree} {r : Standing} → StandsAs p pt n t r → r ≡ Within → (twin : Bool) → TwinIs p later twin → FitsIs p pt n t later (not twin)
-fit_within s e true w = fit_twin s e w refl
-fit_within s e false w = fit_alone s e w refl
 
 from_bytes : (most : ℕ) (b : Bytes) (w at : ℕ) (t : Tree) → held_from most b w at ≡ some t → (packed_all t ≡ drop at b) × Wide w t
 unfolding held_from packed_all

@@ -5,10 +5,9 @@ ghost use Rattle.names.specs.Check.{size_of, TwinIs, Lower, plain, FitsIs, Check
 ghost use Rattle.model.specs.Tree.{is_tree};
 ghost use Rattle.names_compact.specs.Judge.{end_as, end_at, entry_held, held_at, compact_tree, Head};
 
-use names::neighbour::Standing;
+use names::later::Entries;
 use names::order::Key;
 use names::tree::Size;
-use std::cmp::Ordering;
 
 // Where the entry at `at` ends, if its kind is one of the five and its bytes are there.
 fn end_of(tree: &[u8], width: usize, at: usize) -> Option<usize>
@@ -39,31 +38,24 @@ fn key_held(tree: &[u8], width: usize, at: usize, next: usize) -> Key<'_>
     }
 }
 
-// Whether the tree of the name is among the entries from `from` on, up to the first that comes after it.
-fn has_twin(tree: &[u8], width: usize, from: usize, name: &[u8]) -> bool
-    ensures { TwinIs name.now (held_at tree.now width from) result }
-{
-    let twin = Key { name, tree: true };
-    let mut at = from;
-    while let Some(next) = end_of(tree, width, at) {
-        match names::order::name_order(key_held(tree, width, at, next), twin) {
-            Ordering::Less => at = next,
-            Ordering::Equal => return true,
-            Ordering::Greater => return false,
-        }
-    }
-    false
+// Bytes that are read as a tree in compact form.
+#[derive(Clone, Copy)]
+pub struct Packed<'a> {
+    tree: &'a [u8],
+    width: usize,
 }
 
-// Whether an entry may follow the one before it, where the entries from `next` on are well formed.
-fn may_follow(tree: &[u8], width: usize, next: usize, prev: Key<'_>, key: Key<'_>) -> bool
-    requires { plain prev.name.now ≡ true }
-    ensures { FitsIs prev.entry.name.now prev.entry.tree key.entry.name.now key.entry.tree (held_at tree.now width next) result }
-{
-    match names::neighbour::step(prev, key) {
-        Standing::Apart => true,
-        Standing::Within => !has_twin(tree, width, next, prev.name),
-        Standing::Wrong => false,
+impl<'a> Entries for Packed<'a> {
+    ghost use Rattle.std.specs.Prelude.{length};
+    ghost use Rattle.names_compact.specs.Judge.{held_at};
+
+    ghost held = { λ s at. held_at s.tree.now s.width at };
+
+    ghost end = { λ s. length s.tree.now };
+
+    fn key_at(&self, at: usize) -> Option<(Key<'_>, usize)> {
+        let next = end_of(self.tree, self.width, at)?;
+        Some((key_held(self.tree, self.width, at, next), next))
     }
 }
 
@@ -195,7 +187,11 @@ pub fn judge(tree: &[u8], width: usize) -> Option<Size>
     while check.at < check.tree.len() {
         let next = end_of(check.tree, check.width, check.at)?;
         let key = key_held(check.tree, check.width, check.at, next);
-        if !may_follow(check.tree, check.width, next, check.prev, key) {
+        let entries = Packed {
+            tree: check.tree,
+            width: check.width,
+        };
+        if !names::later::may_follow(&entries, next, check.prev, key) {
             return None;
         }
         check = check.past(key, next);
