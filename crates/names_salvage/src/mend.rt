@@ -12,6 +12,7 @@ use names::path::position;
 use names::write::put;
 
 // The answer: a number, the length of the tree that was written or is needed, and what was changed.
+// Stays: a number for each refusal and the length that is needed, since `tree_editor_mend` gives this struct to C.
 #[repr(C)]
 #[derive(Clone, Copy)]
 pub struct Mended {
