@@ -25,7 +25,8 @@ pub struct Mended {
     pub moved: usize,
 }
 
-// Why a tree is not mended, with nothing written: its ids have no known width or it has 2 ^ 29 bytes or more; what can be kept passes a limit; or the output is too short.
+// Why a tree is not mended, with nothing written: its ids have no known width or it has 2 ^ 29 bytes or more; what can be kept passes a limit; or the output
+// is too short.
 #[derive(Clone, Copy, PartialEq, Eq)]
 pub enum Refusal {
     NotTaken,
