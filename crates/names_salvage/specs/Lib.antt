@@ -4,4 +4,3 @@ pub mod Mending
 pub mod Pieces
 pub mod Report
 pub mod Slots
-pub mod Tables

@@ -12,6 +12,7 @@ use names::path::position;
 use names::write::put;
 
 // The answer: a number, the length of the tree that was written or is needed, and what was changed.
+// Stays: a number for each refusal and the length that is needed, since `tree_editor_mend` gives this struct to C.
 #[repr(C)]
 #[derive(Clone, Copy)]
 pub struct Mended {
@@ -24,7 +25,8 @@ pub struct Mended {
     pub moved: usize,
 }
 
-// Why a tree is not mended, with nothing written: its ids have no known width or it has 2 ^ 29 bytes or more; what can be kept passes a limit; or the output is too short.
+// Why a tree is not mended, with nothing written: its ids have no known width or it has 2 ^ 29 bytes or more; what can be kept passes a limit; or the output
+// is too short.
 #[derive(Clone, Copy, PartialEq, Eq)]
 pub enum Refusal {
     NotTaken,

@@ -3,7 +3,6 @@ ghost use Rattle.std.specs.Prelude.{◌≡◌, true, cond, ℕ, ◌≤◌, eqb, 
 ghost use Rattle.model.specs.Tree.{Entry, good_name};
 ghost use Rattle.names_salvage.specs.Answers.{StandsAt, piece_at, Enters, Holds, Turned, Passed};
 ghost use Rattle.names_salvage.specs.Mending as mending;
-ghost use Rattle.names_salvage.specs.Tables.{slots_of};
 
 use crate::piece::RawPiece;
 use crate::table::{Slot, Table};
@@ -31,10 +30,10 @@ fn fits(entries: usize, bytes: usize) -> bool
 
 // An entry with a good name and mode is kept, unless its name is kept already; nothing, where the entries kept then pass a limit.
 fn keep(raw: &[u8], table: &mut Table, t: Tally, piece: RawPiece<'_>, tree: bool) -> Option<Tally>
-    requires { ((w : ℕ) × (m : mending.Mended) × (e : Entry) × Holds raw.now w (slots_of table.old) t m × Enters raw.now w t.at piece tree e)
+    requires { ((w : ℕ) × (m : mending.Mended) × (e : Entry) × Holds raw.now w table.old t m × Enters raw.now w t.at piece tree e)
         × (good_name piece.name.now ≡ true) × (length raw.now ≤ 536870911) }
-    ensures { (w : ℕ) (m : mending.Mended) (e : Entry) → Holds raw.now w (slots_of table.old) t m → Enters raw.now w t.at piece.entry tree e
-        → Turned raw.now w (slots_of table.new) result (mending.keep e m) piece.entry.next }
+    ensures { (w : ℕ) (m : mending.Mended) (e : Entry) → Holds raw.now w table.old t m → Enters raw.now w t.at piece.entry tree e
+        → Turned raw.now w table.new result (mending.keep e m) piece.entry.next }
 {
     let name = piece.name;
     let Err(i) = table.place_for(raw, Key { name, tree }) else {
@@ -44,7 +43,7 @@ fn keep(raw: &[u8], table: &mut Table, t: Tally, piece: RawPiece<'_>, tree: bool
             ..t
         });
     };
-    let n = table.count();
+    let n = table.kept().len();
     if !fits(n + 1, t.names + name.len()) {
         return None;
     }
@@ -60,9 +59,9 @@ fn keep(raw: &[u8], table: &mut Table, t: Tally, piece: RawPiece<'_>, tree: bool
 
 // What is known after one entry more; nothing, where the entries kept pass a limit.
 fn turn(raw: &[u8], table: &mut Table, t: Tally, piece: RawPiece<'_>) -> Option<Tally>
-    requires { ((w : ℕ) × (m : mending.Mended) × Holds raw.now w (slots_of table.old) t m × StandsAt raw.now w t.at piece) × (length raw.now ≤ 536870911) }
-    ensures { (w : ℕ) (m : mending.Mended) → Holds raw.now w (slots_of table.old) t m → StandsAt raw.now w t.at piece.entry
-        → Turned raw.now w (slots_of table.new) result (mending.mend1 (piece_at raw.now w piece.entry) m) piece.entry.next }
+    requires { ((w : ℕ) × (m : mending.Mended) × Holds raw.now w table.old t m × StandsAt raw.now w t.at piece) × (length raw.now ≤ 536870911) }
+    ensures { (w : ℕ) (m : mending.Mended) → Holds raw.now w table.old t m → StandsAt raw.now w t.at piece.entry
+        → Turned raw.now w table.new result (mending.mend1 (piece_at raw.now w piece.entry) m) piece.entry.next }
 {
     if !crate::piece::good_name(piece.name) {
         return Some(Tally {
@@ -84,7 +83,7 @@ fn turn(raw: &[u8], table: &mut Table, t: Tally, piece: RawPiece<'_>) -> Option<
 // Reads entries until one can't be read, into a table that is emptied first; nothing, where the entries kept pass a limit.
 pub fn pass(raw: &[u8], width: usize, table: &mut Table) -> Option<Tally>
     requires { length raw.now ≤ 536870911 }
-    ensures { Passed raw.now width (slots_of table.new) result }
+    ensures { Passed raw.now width table.new result }
 {
     table.clear();
     let mut t = Tally::default();

@@ -1,15 +1,17 @@
 // The table of the entries kept, in Git's order.
-ghost use Rattle.std.specs.Prelude.{◌≡◌, true, ◌∷◌, ◌++◌, ◌+◌, ◌*◌, ◌/◌, ◌%◌, ◌≤◌, ◌<◌, eqb, length, take, drop};
+ghost use Rattle.std.specs.Prelude.{◌≡◌, true, List, [], ◌∷◌, ◌++◌, ◌+◌, ◌*◌, ◌/◌, ◌%◌, ◌≤◌, ◌<◌, eqb, length, take, drop};
 ghost use Rattle.names_compact.specs.Compact.{begun};
 ghost use Rattle.model.specs.Map.{rising};
 ghost use Rattle.model.specs.Tree.{Tree, as_kind, key, good_name};
 ghost use Rattle.names_salvage.specs.Answers.{Lists, SearchIs, PlaceIs};
 ghost use Rattle.names_salvage.specs.Slots.{order_byte, slot_order};
+ghost use Rattle.names_salvage.specs.declared.table.Slot.{Slot};
 
 use crate::piece::RawPiece;
 use names::order::Key;
 use names::part::after;
 use std::cmp::Ordering;
+use std::marker::Model;
 
 // An entry of the table.
 // Stays: the number is eight times the place of the entry's name, and how long its mode's text is, so that 1,024 entries take 4 KiB of fixed memory.
@@ -75,15 +77,22 @@ fn order_byte(name: &[u8], tree: bool, i: usize) -> u8
 // The entries kept, of which there are at most 1,024.
 #[derive(Drop)]
 pub struct Table {
-    pub slots: [Slot; 1024],
-    pub len: usize,
-    ghost few: { len ≤ 1024 },
+    slots: [Slot; 1024],
+    len: usize,
+}
+
+impl Model for Table {
+    ghost Value = { List Slot };
+
+    ghost view = { λ t. take t.len t.slots };
+
+    ghost invariant = { λ t. t.len ≤ 1024 };
 }
 
 impl Table {
     // A table with no entries.
     pub fn new() -> Table
-        ensures { result.len ≡ 0 }
+        ensures { result ≡ [] }
     {
         Table {
             slots: [Slot { word: 0 }; 1024],
@@ -93,29 +102,22 @@ impl Table {
 
     // Takes all entries out.
     pub fn clear(&mut self)
-        ensures { self.new.len ≡ 0 }
+        ensures { self.new ≡ [] }
     {
         self.len = 0;
     }
 
     // The slots of the entries kept.
     pub fn kept(&self) -> &[Slot]
-        ensures { result.now ≡ take self.now.len self.now.slots }
+        ensures { result.now ≡ self.now }
     {
         &self.slots[..self.len]
-    }
-
-    // How many entries are kept.
-    pub fn count(&self) -> usize
-        ensures { result ≡ length (take self.now.len self.now.slots) }
-    {
-        self.len
     }
 
     // Whether the entry at the place i, if there is one, has a name that begins with this one.
     fn begins_at(&self, raw: &[u8], i: usize, name: &[u8]) -> bool
         requires { good_name name.now ≡ true }
-        ensures { (t : Tree) → Lists raw.now (take self.now.len self.now.slots) t → result ≡ begun name.now (drop i t) }
+        ensures { (t : Tree) → Lists raw.now self.now t → result ≡ begun name.now (drop i t) }
     {
         match self.kept().get(i) {
             Some(slot) => names::order::shared(name, after(raw, slot.name_at())) == name.len(),
@@ -126,7 +128,7 @@ impl Table {
     // Searches a name by halving.
     fn search(&self, raw: &[u8], sought: Key<'_>) -> Result<usize, usize>
         requires { good_name sought.name.now ≡ true }
-        ensures { (t : Tree) → Lists raw.now (take self.now.len self.now.slots) t → rising key t ≡ true → SearchIs t (as_kind sought.entry.tree sought.entry.name.now) result }
+        ensures { (t : Tree) → Lists raw.now self.now t → rising key t ≡ true → SearchIs t (as_kind sought.entry.tree sought.entry.name.now) result }
     {
         self.kept().binary_search_by(|slot| slot.order(raw, sought))
     }
@@ -134,7 +136,7 @@ impl Table {
     // Whether a name is kept already, and where an entry of it would stand. Between a file's place and the tree of its name stand only names that begin with it.
     pub fn place_for(&self, raw: &[u8], sought: Key<'_>) -> Result<usize, usize>
         requires { good_name sought.name.now ≡ true }
-        ensures { (t : Tree) → Lists raw.now (take self.now.len self.now.slots) t → rising key t ≡ true → PlaceIs t sought.entry.name.now sought.entry.tree result }
+        ensures { (t : Tree) → Lists raw.now self.now t → rising key t ≡ true → PlaceIs t sought.entry.name.now sought.entry.tree result }
     {
         let file = self.search(
             raw,
@@ -163,8 +165,8 @@ impl Table {
 
     // Puts a slot in before the place i.
     pub fn insert(&mut self, i: usize, slot: Slot)
-        requires { (i ≤ length (take self.old.len self.old.slots)) × (length (take self.old.len self.old.slots) < 1024) }
-        ensures { take self.new.len self.new.slots ≡ take i (take self.old.len self.old.slots) ++ (slot ∷ drop i (take self.old.len self.old.slots)) }
+        requires { (i ≤ length self.old) × (length self.old < 1024) }
+        ensures { self.new ≡ take i self.old ++ (slot ∷ drop i self.old) }
     {
         self.slots.copy_within(i..self.len, i + 1);
         self.slots[i] = slot;

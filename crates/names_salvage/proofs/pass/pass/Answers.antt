@@ -1,12 +1,11 @@
 -- `names_salvage::pass::pass` meets its contract: what is left gives the answer of the whole, and a limit once passed is passed in the end. Assumes nothing.
 use mathlib.Core.Path.{ap}
-use lib.ListN.{take, length}
-use Rattle.names_salvage.specs.Tables.{slots_of}
+use lib.ListN.{length}
 use Rattle.names_salvage.proofs.PassLaws.{pass_begin, pass_more, pass_over, pass_end, read_whole, read_cut}
 use Rattle.names_salvage.proofs.pass.pass.Goals as goal
 
 pub loop-piece-init : goal.loop-piece-init
-loop-piece-init c = pass_begin c.args.raw.now c.args.width (slots_of c.clear.new.self) (ap (λ (k : _). length (take k c.clear.new.self.slots)) c.clear.ensures) c.default-t.result c.default-t.ensures
+loop-piece-init c = pass_begin c.args.raw.now c.args.width c.clear.new.self (ap length c.clear.ensures) c.default-t.result c.default-t.ensures
 
 pub returns-in_err-t : goal.returns-in_err-t
 returns-in_err-t c =
