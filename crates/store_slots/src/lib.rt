@@ -13,7 +13,6 @@ ghost use Rattle.store_runs.specs.Runs.{total, cut, run_of, Sound};
 ghost use Rattle.store_slots.specs.View.{view_of, held_as, held_at, aside_of, taken_of, start_slot, Laid, tree_room, fresh, SlotIs, path_of, Used, Others, SameWrite};
 
 use names::limits::SLOTS;
-pub use store_runs::runs::Found;
 
 // What is in use of the slices, and the open write. In `free`, set bits are free slots; in `hidden`, free ones and those that the write has taken.
 // `open` is 0 where no write is open, 1 for one from the root and 2 for one from a cursor; `aside` and `stacked` count its trees, and `asked` is
@@ -41,7 +40,7 @@ pub struct Taken {
 }
 
 // The slot of the cached tree at a path.
-pub fn find(r: Record, plens: &[u64], paths: &[u8], path: &[u8]) -> Found
+pub fn find(r: Record, plens: &[u64], paths: &[u8], path: &[u8]) -> Option<usize>
     requires { Sound plens.now paths.now r.paths × (length plens.now ≡ 64) }
     ensures { (w : ℕ) (runs : List Bytes) → length runs ≡ 64 → SlotIs w (digits 64 r.hidden) (cut plens.now paths.now) runs path.now result }
 {
@@ -51,7 +50,7 @@ pub fn find(r: Record, plens: &[u64], paths: &[u8], path: &[u8]) -> Found
 }
 
 // The first used slot at a path, whether its tree is cached or taken.
-pub fn find_used(r: Record, plens: &[u64], paths: &[u8], path: &[u8]) -> Found
+pub fn find_used(r: Record, plens: &[u64], paths: &[u8], path: &[u8]) -> Option<usize>
     requires { Sound plens.now paths.now r.paths × (length plens.now ≡ 64) }
     ensures { result ≡ find_from 0 (digits 64 r.free) (cut plens.now paths.now) path.now }
 {
