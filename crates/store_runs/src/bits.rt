@@ -11,6 +11,7 @@ pub fn count(map: u64) -> usize
 }
 
 // The first slot that is set, or 64.
+// Stays: as u64::trailing_zeros has it; the one caller knows that a slot is free, and would have to rule out None.
 pub fn first(map: u64) -> usize
     ensures { result ≡ first_set (digits 64 map) }
 {

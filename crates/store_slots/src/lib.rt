@@ -13,6 +13,7 @@ ghost use Rattle.store_runs.specs.Runs.{total, cut, run_of, Sound};
 ghost use Rattle.store_slots.specs.View.{view_of, held_as, held_at, aside_of, taken_of, start_slot, Laid, tree_room, fresh, SlotIs, path_of, Used, Others, SameWrite};
 
 use names::limits::SLOTS;
+use names_compact::compact::Tree;
 
 // What is in use of the slices, and the open write. In `free`, set bits are free slots; in `hidden`, free ones and those that the write has taken.
 // `open` is 0 where no write is open, 1 for one from the root and 2 for one from a cursor; `aside` and `stacked` count its trees, and `asked` is
@@ -44,9 +45,7 @@ pub fn find(r: Record, plens: &[u64], paths: &[u8], path: &[u8]) -> Option<usize
     requires { Sound plens.now paths.now r.paths × (length plens.now ≡ 64) }
     ensures { (w : ℕ) (runs : List Bytes) → length runs ≡ 64 → SlotIs w (digits 64 r.hidden) (cut plens.now paths.now) runs path.now result }
 {
-    let map = r.hidden;
-    let np = r.paths;
-    store_runs::runs::find(map, plens, paths, np, path)
+    store_runs::runs::find(r.hidden, plens, paths, r.paths, path)
 }
 
 // The first used slot at a path, whether its tree is cached or taken.
@@ -54,9 +53,7 @@ pub fn find_used(r: Record, plens: &[u64], paths: &[u8], path: &[u8]) -> Option<
     requires { Sound plens.now paths.now r.paths × (length plens.now ≡ 64) }
     ensures { result ≡ find_from 0 (digits 64 r.free) (cut plens.now paths.now) path.now }
 {
-    let map = r.free;
-    let np = r.paths;
-    store_runs::runs::find(map, plens, paths, np, path)
+    store_runs::runs::find(r.free, plens, paths, r.paths, path)
 }
 
 // The path of a slot, as a part of the caller's bytes.
@@ -64,8 +61,7 @@ pub fn path_in<'a>(r: Record, plens: &[u64], paths: &'a [u8], slot: usize) -> &'
     requires { Sound plens.now paths.now r.paths × (slot < length plens.now) }
     ensures { result.now ≡ run_of plens.now paths.now slot }
 {
-    let np = r.paths;
-    store_runs::runs::run(plens, paths, np, slot)
+    store_runs::runs::run(plens, paths, r.paths, slot)
 }
 
 // The tree of a slot, as a part of the caller's bytes.
@@ -73,16 +69,14 @@ pub fn tree_in<'a>(r: Record, tlens: &[u64], trees: &'a [u8], slot: usize) -> &'
     requires { Sound tlens.now trees.now r.trees × (slot < length tlens.now) }
     ensures { result.now ≡ run_of tlens.now trees.now slot }
 {
-    let nt = r.trees;
-    store_runs::runs::run(tlens, trees, nt, slot)
+    store_runs::runs::run(tlens, trees, r.trees, slot)
 }
 
 // How many slots are used.
 pub fn used(r: Record) -> usize
     ensures { result ≡ 64 - total (digits 64 r.free) }
 {
-    let map = r.free;
-    SLOTS - store_runs::bits::count(map)
+    SLOTS - store_runs::bits::count(r.free)
 }
 
 // The slot of the tree that the open write started at: the first set aside, or the requested one where none is.
@@ -93,9 +87,10 @@ pub fn start(r: Record, order: &[u64]) -> usize
     ensures slot { result ≡ start_slot r order.now }
 {
     if r.aside == 0 {
-        return r.asked;
+        r.asked
+    } else {
+        order[0] as usize
     }
-    order[0] as usize
 }
 
 // Drops the tree in a slot.
@@ -116,25 +111,21 @@ pub fn drop_slot(
         × Others tlens.old trees.old k tlens.new trees.new × (digits 64 result.free ≡ set (digits 64 r.free) k 1) × (digits 64 result.hidden ≡ set (digits 64 r.hidden) k 1) }
     ensures same { (r.hidden ≡ r.free → result.hidden ≡ result.free) × SameWrite r result }
 {
-    let map = r.free;
-    let hid = r.hidden;
-    let np = r.paths;
-    let nt = r.trees;
     let n = plens[k] as usize;
     let m = tlens[k] as usize;
-    let es = names_compact::compact::count(store_runs::runs::run(tlens, trees, nt, k), width);
+    let tree = Tree {
+        bytes: store_runs::runs::run(tlens, trees, r.trees, k),
+        width,
+    };
+    let es = tree.count();
     let ns = m - es * (2 + width);
     let left = r.entries - es;
     let bytes = r.names - ns;
-    let p = store_runs::runs::remove(plens, paths, np, k, 0, n);
-    let t = store_runs::runs::remove(tlens, trees, nt, k, 0, m);
-    let f = store_runs::bits::set(map, k);
-    let h = store_runs::bits::set(hid, k);
     Record {
-        free: f,
-        hidden: h,
-        paths: p,
-        trees: t,
+        free: store_runs::bits::set(r.free, k),
+        hidden: store_runs::bits::set(r.hidden, k),
+        paths: store_runs::runs::remove(plens, paths, r.paths, k, 0, n),
+        trees: store_runs::runs::remove(tlens, trees, r.trees, k, 0, m),
         entries: left,
         names: bytes,
         ..r
@@ -162,17 +153,14 @@ pub fn add_empty(
         × (digits 64 result.editor.free ≡ set (digits 64 r.free) result.slot 0) }
     ensures same { (result.editor.hidden ≡ result.editor.free) × SameWrite r result.editor }
 {
-    let map = r.free;
-    let np = r.paths;
-    let k = store_runs::bits::first(map);
-    let p = store_runs::runs::insert(plens, paths, np, k, 0, path);
-    let f = store_runs::bits::clear(map, k);
+    let slot = store_runs::bits::first(r.free);
+    let free = store_runs::bits::clear(r.free, slot);
     Taken {
-        slot: k,
+        slot,
         editor: Record {
-            free: f,
-            hidden: f,
-            paths: p,
+            free,
+            hidden: free,
+            paths: store_runs::runs::insert(plens, paths, r.paths, slot, 0, path),
             ..r
         },
     }
@@ -194,8 +182,8 @@ pub fn drop_all(
     store_runs::runs::clear(plens);
     store_runs::runs::clear(tlens);
     Record {
-        free: 0xffff_ffff_ffff_ffff,
-        hidden: 0xffff_ffff_ffff_ffff,
+        free: u64::MAX,
+        hidden: u64::MAX,
         paths: 0,
         trees: 0,
         entries: 0,
