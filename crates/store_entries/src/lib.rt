@@ -1,7 +1,7 @@
 // Edits of the tree in a slot.
 #![tactic(auto)]
 
-ghost use Rattle.std.specs.Prelude.{◌≡◌, true, ◌+◌, ◌≤◌, ◌<◌, length, get_or};
+ghost use Rattle.std.specs.Prelude.{◌≡◌, true, Err, ◌+◌, ◌≤◌, ◌<◌, length, get_or};
 ghost use Rattle.std.proofs.Math.Option.{none};
 ghost use Rattle.model.specs.Bytes.{Bytes};
 ghost use Rattle.model.specs.Map.{find, put, del};
@@ -15,11 +15,12 @@ ghost use Rattle.store_runs.specs.Runs.{cut, with_run, run_of, Sound};
 ghost use Rattle.store_slots.specs.View.{view_of, held_as, Laid, path_of, tree_of, Used};
 ghost use Rattle.store_entries.specs.Entries.{Fresh, Edited};
 
-use names::mode::EntryKind;
-use names_compact::compact::Place;
+use names::order::Key;
+use names::write::Entry;
+use names_compact::compact::{Place, Tree};
 use store_slots::Record;
 
-// Removes the entry of a name, of a tree or of another, if there is one.
+// Removes the entry of a key, if there is one.
 pub fn remove_key(
     r: Record,
     plens: &[u64],
@@ -28,37 +29,25 @@ pub fn remove_key(
     trees: &mut [u8],
     width: usize,
     slot: usize,
-    name: &[u8],
-    as_tree: bool,
+    sought: Key<'_>,
 ) -> Record
     requires { Laid width r plens.now paths.now tlens.old trees.old × (width ≤ 64) × Used r slot }
-    ensures { Edited width r plens.now paths.now tlens.old trees.old slot (del key (as_kind as_tree name.now) (tree_of width tlens.old trees.old slot)) result tlens.new trees.new }
+    ensures { Edited width r plens.now paths.now tlens.old trees.old slot (del key (as_kind sought.entry.tree sought.entry.name.now) (tree_of width tlens.old trees.old slot)) result tlens.new trees.new }
 {
-    let nt = r.trees;
-    let place = names_compact::compact::search(
-        store_runs::runs::run(tlens, trees, nt, slot),
+    let tree = Tree {
+        bytes: store_slots::tree_in(r, tlens, trees, slot),
         width,
-        name,
-        as_tree,
-    );
-    if !place.found {
+    };
+    let Ok(place) = tree.search(sought) else {
         return r;
-    }
-    let a = place.at;
-    let i = place.index;
-    let n = names_compact::compact::name_at(
-        store_runs::runs::run(tlens, trees, nt, slot),
-        width,
-        a,
-        i,
-    ).len();
-    let t = store_runs::runs::remove(tlens, trees, nt, slot, a, 2 + width + n);
+    };
+    let n = tree.name_at(place.at, place.index).len();
+    let t = store_runs::runs::remove(tlens, trees, r.trees, slot, place.at, 2 + width + n);
     let left = r.entries - 1;
-    let bytes = r.names - n;
     Record {
         trees: t,
         entries: left,
-        names: bytes,
+        names: r.names - n,
         ..r
     }
 }
@@ -77,8 +66,8 @@ pub fn remove(
     requires { Laid width r plens.now paths.now tlens.old trees.old × (width ≤ 64) × Used r slot }
     ensures { Edited width r plens.now paths.now tlens.old trees.old slot (without name.now (tree_of width tlens.old trees.old slot)) result tlens.new trees.new }
 {
-    let one = remove_key(r, plens, paths, tlens, trees, width, slot, name, true);
-    remove_key(one, plens, paths, tlens, trees, width, slot, name, false)
+    let one = remove_key(r, plens, paths, tlens, trees, width, slot, Key { name, tree: true });
+    remove_key(one, plens, paths, tlens, trees, width, slot, Key { name, tree: false })
 }
 
 // Puts an entry in, of whose name the tree has none, at the place that the search of its key gave.
@@ -91,27 +80,21 @@ fn insert_at(
     width: usize,
     slot: usize,
     place: Place,
-    kind: EntryKind,
-    id: &[u8],
-    name: &[u8],
+    given: Entry<'_>,
 ) -> Record
-    requires { Laid width r plens.now paths.now tlens.old trees.old × (width ≤ 64) × Used r slot × (length id.now ≡ width) × (good_name name.now ≡ true)
-        × Fresh name.now (tree_of width tlens.old trees.old slot)
-        × (fits (put at (held_as (path_of plens.now paths.now slot) (put key (entry kind name.now id.now) (tree_of width tlens.old trees.old slot))) (view_of width r plens.now paths.now tlens.old trees.old)) ≡ true)
-        × Tells width (run_of tlens.old trees.old slot) (searched key (as_kind (is_tree (as_mode kind)) name.now) (unpack width (run_of tlens.old trees.old slot))) place }
-    ensures { Edited width r plens.now paths.now tlens.old trees.old slot (put key (entry kind name.now id.now) (tree_of width tlens.old trees.old slot)) result tlens.new trees.new }
+    requires { Laid width r plens.now paths.now tlens.old trees.old × (width ≤ 64) × Used r slot × (length given.id.now ≡ width) × (good_name given.name.now ≡ true)
+        × Fresh given.name.now (tree_of width tlens.old trees.old slot)
+        × (fits (put at (held_as (path_of plens.now paths.now slot) (put key (entry given.kind given.name.now given.id.now) (tree_of width tlens.old trees.old slot))) (view_of width r plens.now paths.now tlens.old trees.old)) ≡ true)
+        × Tells width (run_of tlens.old trees.old slot) (searched key (as_kind (is_tree (as_mode given.kind)) given.name.now) (unpack width (run_of tlens.old trees.old slot))) (Err place) }
+    ensures { Edited width r plens.now paths.now tlens.old trees.old slot (put key (entry given.entry.kind given.entry.name.now given.entry.id.now) (tree_of width tlens.old trees.old slot)) result tlens.new trees.new }
 {
-    let nt = r.trees;
     let mut buf = [0u8; 321];
-    let byte = names_compact::compact::kind_byte(kind);
-    let n = names_compact::compact::put_entry(&mut buf, byte, id, name);
-    let t = store_runs::runs::insert(tlens, trees, nt, slot, place.at, &buf[..n]);
-    let more = r.entries + 1;
-    let bytes = r.names + name.len();
+    let n = names_compact::compact::put_entry(&mut buf, given);
+    let t = store_runs::runs::insert(tlens, trees, r.trees, slot, place.at, &buf[..n]);
     Record {
         trees: t,
-        entries: more,
-        names: bytes,
+        entries: r.entries + 1,
+        names: r.names + given.name.len(),
         ..r
     }
 }
@@ -125,26 +108,22 @@ pub fn insert_key(
     trees: &mut [u8],
     width: usize,
     slot: usize,
-    kind: EntryKind,
-    id: &[u8],
-    name: &[u8],
+    given: Entry<'_>,
 ) -> Record
-    requires { Laid width r plens.now paths.now tlens.old trees.old × (width ≤ 64) × Used r slot × (length id.now ≡ width) × (good_name name.now ≡ true)
-        × Fresh name.now (tree_of width tlens.old trees.old slot)
-        × (fits (put at (held_as (path_of plens.now paths.now slot) (put key (entry kind name.now id.now) (tree_of width tlens.old trees.old slot))) (view_of width r plens.now paths.now tlens.old trees.old)) ≡ true) }
-    ensures { Edited width r plens.now paths.now tlens.old trees.old slot (put key (entry kind name.now id.now) (tree_of width tlens.old trees.old slot)) result tlens.new trees.new }
+    requires { Laid width r plens.now paths.now tlens.old trees.old × (width ≤ 64) × Used r slot × (length given.id.now ≡ width) × (good_name given.name.now ≡ true)
+        × Fresh given.name.now (tree_of width tlens.old trees.old slot)
+        × (fits (put at (held_as (path_of plens.now paths.now slot) (put key (entry given.kind given.name.now given.id.now) (tree_of width tlens.old trees.old slot))) (view_of width r plens.now paths.now tlens.old trees.old)) ≡ true) }
+    ensures { Edited width r plens.now paths.now tlens.old trees.old slot (put key (entry given.entry.kind given.entry.name.now given.entry.id.now) (tree_of width tlens.old trees.old slot)) result tlens.new trees.new }
 {
-    let nt = r.trees;
-    let in_tree_order = names::mode::is_tree(kind);
-    let place = names_compact::compact::search(
-        store_runs::runs::run(tlens, trees, nt, slot),
+    let tree = Tree {
+        bytes: store_slots::tree_in(r, tlens, trees, slot),
         width,
-        name,
-        in_tree_order,
-    );
-    insert_at(
-        r, plens, paths, tlens, trees, width, slot, place, kind, id, name,
-    )
+    };
+    let key = Key { name: given.name, tree: given.kind.is_tree() };
+    let Err(place) = tree.search(key) else {
+        unreachable!();
+    };
+    insert_at(r, plens, paths, tlens, trees, width, slot, place, given)
 }
 
 // Writes an entry over as many bytes of a slot's run.
@@ -154,16 +133,13 @@ fn rewrite(
     used: usize,
     slot: usize,
     at: usize,
-    kind: EntryKind,
-    id: &[u8],
-    name: &[u8],
+    given: Entry<'_>,
 )
-    requires { Sound tlens.now trees.old used × (slot < length tlens.now) × (at + length (packed (entry kind name.now id.now)) ≤ get_or tlens.now slot 0) × (length name.now ≤ 255) }
-    ensures { cut tlens.now trees.new ≡ with_run slot (λ (l : Bytes). splice l at (packed (entry kind name.now id.now))) (cut tlens.now trees.old) }
+    requires { Sound tlens.now trees.old used × (slot < length tlens.now) × (at + length (packed (entry given.kind given.name.now given.id.now)) ≤ get_or tlens.now slot 0) × (length given.name.now ≤ 255) }
+    ensures { cut tlens.now trees.new ≡ with_run slot (λ (l : Bytes). splice l at (packed (entry given.entry.kind given.entry.name.now given.entry.id.now))) (cut tlens.now trees.old) }
 {
     let a = store_runs::runs::start(tlens, slot) + at;
-    let byte = names_compact::compact::kind_byte(kind);
-    names_compact::compact::put_at(trees, a, byte, id, name);
+    names_compact::compact::put_at(trees, a, given);
 }
 
 // Puts an entry in, in place of the one of its name and of another kind of key, if there is one.
@@ -175,18 +151,16 @@ fn replace(
     trees: &mut [u8],
     width: usize,
     slot: usize,
-    kind: EntryKind,
-    id: &[u8],
-    name: &[u8],
+    given: Entry<'_>,
 ) -> Record
-    requires { Laid width r plens.now paths.now tlens.old trees.old × (width ≤ 64) × Used r slot × (length id.now ≡ width) × (good_name name.now ≡ true)
-        × (find key (as_kind (is_tree (as_mode kind)) name.now) (tree_of width tlens.old trees.old slot) ≡ none)
-        × (fits (put at (held_as (path_of plens.now paths.now slot) (with_entry (entry kind name.now id.now) (tree_of width tlens.old trees.old slot))) (view_of width r plens.now paths.now tlens.old trees.old)) ≡ true) }
-    ensures { Edited width r plens.now paths.now tlens.old trees.old slot (with_entry (entry kind name.now id.now) (tree_of width tlens.old trees.old slot)) result tlens.new trees.new }
+    requires { Laid width r plens.now paths.now tlens.old trees.old × (width ≤ 64) × Used r slot × (length given.id.now ≡ width) × (good_name given.name.now ≡ true)
+        × (find key (as_kind (is_tree (as_mode given.kind)) given.name.now) (tree_of width tlens.old trees.old slot) ≡ none)
+        × (fits (put at (held_as (path_of plens.now paths.now slot) (with_entry (entry given.kind given.name.now given.id.now) (tree_of width tlens.old trees.old slot))) (view_of width r plens.now paths.now tlens.old trees.old)) ≡ true) }
+    ensures { Edited width r plens.now paths.now tlens.old trees.old slot (with_entry (entry given.entry.kind given.entry.name.now given.entry.id.now) (tree_of width tlens.old trees.old slot)) result tlens.new trees.new }
 {
-    let other = !names::mode::is_tree(kind);
-    let one = remove_key(r, plens, paths, tlens, trees, width, slot, name, other);
-    insert_key(one, plens, paths, tlens, trees, width, slot, kind, id, name)
+    let twin = Key { name: given.name, tree: !given.kind.is_tree() };
+    let one = remove_key(r, plens, paths, tlens, trees, width, slot, twin);
+    insert_key(one, plens, paths, tlens, trees, width, slot, given)
 }
 
 // Puts an entry in, of whose key the tree has none, at the place that the search of its key gave, unless the one of its name and of another kind of key goes first.
@@ -199,31 +173,24 @@ fn add(
     width: usize,
     slot: usize,
     place: Place,
-    kind: EntryKind,
-    id: &[u8],
-    name: &[u8],
+    given: Entry<'_>,
 ) -> Record
-    requires { Laid width r plens.now paths.now tlens.old trees.old × (width ≤ 64) × Used r slot × (length id.now ≡ width) × (good_name name.now ≡ true)
-        × (find key (as_kind (is_tree (as_mode kind)) name.now) (tree_of width tlens.old trees.old slot) ≡ none)
-        × (fits (put at (held_as (path_of plens.now paths.now slot) (with_entry (entry kind name.now id.now) (tree_of width tlens.old trees.old slot))) (view_of width r plens.now paths.now tlens.old trees.old)) ≡ true)
-        × Tells width (run_of tlens.old trees.old slot) (searched key (as_kind (is_tree (as_mode kind)) name.now) (unpack width (run_of tlens.old trees.old slot))) place }
-    ensures { Edited width r plens.now paths.now tlens.old trees.old slot (with_entry (entry kind name.now id.now) (tree_of width tlens.old trees.old slot)) result tlens.new trees.new }
+    requires { Laid width r plens.now paths.now tlens.old trees.old × (width ≤ 64) × Used r slot × (length given.id.now ≡ width) × (good_name given.name.now ≡ true)
+        × (find key (as_kind (is_tree (as_mode given.kind)) given.name.now) (tree_of width tlens.old trees.old slot) ≡ none)
+        × (fits (put at (held_as (path_of plens.now paths.now slot) (with_entry (entry given.kind given.name.now given.id.now) (tree_of width tlens.old trees.old slot))) (view_of width r plens.now paths.now tlens.old trees.old)) ≡ true)
+        × Tells width (run_of tlens.old trees.old slot) (searched key (as_kind (is_tree (as_mode given.kind)) given.name.now) (unpack width (run_of tlens.old trees.old slot))) (Err place) }
+    ensures { Edited width r plens.now paths.now tlens.old trees.old slot (with_entry (entry given.entry.kind given.entry.name.now given.entry.id.now) (tree_of width tlens.old trees.old slot)) result tlens.new trees.new }
 {
-    let nt = r.trees;
-    let as_tree = names::mode::is_tree(kind);
-    let twin = names_compact::compact::search_twin(
-        store_runs::runs::run(tlens, trees, nt, slot),
+    let tree = Tree {
+        bytes: store_slots::tree_in(r, tlens, trees, slot),
         width,
-        name,
-        as_tree,
-        place,
-    );
-    if twin.found {
-        return replace(r, plens, paths, tlens, trees, width, slot, kind, id, name);
+    };
+    let key = Key { name: given.name, tree: given.kind.is_tree() };
+    let twin = tree.search_twin(key, place);
+    if twin.is_ok() {
+        return replace(r, plens, paths, tlens, trees, width, slot, given);
     }
-    insert_at(
-        r, plens, paths, tlens, trees, width, slot, place, kind, id, name,
-    )
+    insert_at(r, plens, paths, tlens, trees, width, slot, place, given)
 }
 
 // Sets an entry: in place of the one of its name, in order, or as a new one.
@@ -235,27 +202,22 @@ pub fn set(
     trees: &mut [u8],
     width: usize,
     slot: usize,
-    kind: EntryKind,
-    id: &[u8],
-    name: &[u8],
+    given: Entry<'_>,
 ) -> Record
-    requires { Laid width r plens.now paths.now tlens.old trees.old × (width ≤ 64) × Used r slot × (length id.now ≡ width) × (good_name name.now ≡ true)
-        × (fits (put at (held_as (path_of plens.now paths.now slot) (with_entry (entry kind name.now id.now) (tree_of width tlens.old trees.old slot))) (view_of width r plens.now paths.now tlens.old trees.old)) ≡ true) }
-    ensures { Edited width r plens.now paths.now tlens.old trees.old slot (with_entry (entry kind name.now id.now) (tree_of width tlens.old trees.old slot)) result tlens.new trees.new }
+    requires { Laid width r plens.now paths.now tlens.old trees.old × (width ≤ 64) × Used r slot × (length given.id.now ≡ width) × (good_name given.name.now ≡ true)
+        × (fits (put at (held_as (path_of plens.now paths.now slot) (with_entry (entry given.kind given.name.now given.id.now) (tree_of width tlens.old trees.old slot))) (view_of width r plens.now paths.now tlens.old trees.old)) ≡ true) }
+    ensures { Edited width r plens.now paths.now tlens.old trees.old slot (with_entry (entry given.entry.kind given.entry.name.now given.entry.id.now) (tree_of width tlens.old trees.old slot)) result tlens.new trees.new }
 {
-    let nt = r.trees;
-    let as_tree = names::mode::is_tree(kind);
-    let place = names_compact::compact::search(
-        store_runs::runs::run(tlens, trees, nt, slot),
+    let tree = Tree {
+        bytes: store_slots::tree_in(r, tlens, trees, slot),
         width,
-        name,
-        as_tree,
-    );
-    if place.found {
-        rewrite(tlens, trees, nt, slot, place.at, kind, id, name);
-        return r;
+    };
+    let key = Key { name: given.name, tree: given.kind.is_tree() };
+    match tree.search(key) {
+        Ok(place) => {
+            rewrite(tlens, trees, r.trees, slot, place.at, given);
+            r
+        }
+        Err(place) => add(r, plens, paths, tlens, trees, width, slot, place, given),
     }
-    add(
-        r, plens, paths, tlens, trees, width, slot, place, kind, id, name,
-    )
 }
