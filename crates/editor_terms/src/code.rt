@@ -22,23 +22,25 @@ pub enum Code {
 }
 
 // The number of an answer.
-pub fn number(code: Code) -> u8
-    ensures { result ≡ code_number code }
-{
-    match code {
-        Code::Done => 0,
-        Code::EmptyComponent => 1,
-        Code::TreeNotFound => 2,
-        Code::TreeDamaged => 3,
-        Code::NotALeaf => 4,
-        Code::NoRoom => 5,
-        Code::PathRefused => 6,
-        Code::BadTable => 7,
-        Code::CursorStale => 8,
-        Code::WriteOpen => 9,
-        Code::NoWriteOpen => 10,
-        Code::OutputShort(_) => 11,
-        Code::BadRoot => 12,
-        Code::StoreDamaged => 13,
+impl From<Code> for u8 {
+    ghost from_gives = { λ code n. n ≡ code_number code };
+
+    fn from(code: Code) -> u8 {
+        match code {
+            Code::Done => 0,
+            Code::EmptyComponent => 1,
+            Code::TreeNotFound => 2,
+            Code::TreeDamaged => 3,
+            Code::NotALeaf => 4,
+            Code::NoRoom => 5,
+            Code::PathRefused => 6,
+            Code::BadTable => 7,
+            Code::CursorStale => 8,
+            Code::WriteOpen => 9,
+            Code::NoWriteOpen => 10,
+            Code::OutputShort(_) => 11,
+            Code::BadRoot => 12,
+            Code::StoreDamaged => 13,
+        }
     }
 }

@@ -2,40 +2,22 @@
 ghost use Rattle.std.specs.Prelude.{◌≡◌, true};
 ghost use Rattle.model.specs.Table.{ends_from, good_table, looked_up};
 ghost use Rattle.editor_terms.specs.Ids.{id_bytes};
-ghost use Rattle.editor_terms.specs.Objects.{table_of, FoundIn};
+ghost use Rattle.editor_terms.specs.Objects.{table_of, raw_as};
 
 use crate::id::Id;
-
-// Where an object's raw tree is.
-#[derive(Clone, Copy)]
-pub enum Object {
-    At(usize, usize),
-    Nothing,
-}
-
-// An offset as a place.
-fn place(end: u32) -> usize
-    ensures { result ≡ end }
-{
-    end as usize
-}
+use names::limits::WIDTH;
 
 // Whether the offsets do not fall, nor pass the end.
 fn ends_ok(ends: &[u32], size: usize) -> bool
     ensures { result ≡ ends_from 0 size ends.now }
 {
-    let mut from: usize = 0;
-    let mut i = 0;
-    while i < ends.len() {
-        let e = place(ends[i]);
-        if e < from {
+    let mut from = 0;
+    for &end in ends {
+        let end = end as usize;
+        if end < from || size < end {
             return false;
         }
-        if size < e {
-            return false;
-        }
-        from = e;
-        i += 1;
+        from = end;
     }
     true
 }
@@ -44,31 +26,21 @@ fn ends_ok(ends: &[u32], size: usize) -> bool
 pub fn is_good(ids: &[u8], ends: &[u32], raws: &[u8]) -> bool
     ensures { result ≡ good_table 20 (table_of ids.now ends.now raws.now) }
 {
-    let n = ids.len() / 20;
-    if n != ends.len() {
-        return false;
-    }
-    if ids.len() % 20 != 0 {
-        return false;
-    }
-    ends_ok(ends, raws.len())
+    ids.len() / WIDTH == ends.len() && ids.len() % WIDTH == 0 && ends_ok(ends, raws.len())
 }
 
 // The raw tree of the first object with the id, in a table that is one.
-pub fn find(ids: &[u8], ends: &[u32], raws: &[u8], id: Id) -> Object
+pub fn find<'a>(ids: &[u8], ends: &[u32], raws: &'a [u8], id: Id) -> Option<&'a [u8]>
     requires { good_table 20 (table_of ids.now ends.now raws.now) ≡ true }
-    ensures { FoundIn (looked_up 20 (table_of ids.now ends.now raws.now) (id_bytes id)) raws.now result }
+    ensures { looked_up 20 (table_of ids.now ends.now raws.now) (id_bytes id) ≡ raw_as result }
 {
-    let wanted = crate::id::bytes(id);
-    let mut from: usize = 0;
-    let mut i = 0;
-    while i < ends.len() {
-        let e = place(ends[i]);
-        if names::order::same_bytes(names::part::between(ids, i * 20, 20), &wanted) {
-            return Object::At(from, e);
+    let mut from = 0;
+    for (key, &end) in ids.chunks_exact(WIDTH).zip(ends) {
+        let end = end as usize;
+        if key == id.bytes.as_slice() {
+            return Some(&raws[from..end]);
         }
-        from = e;
-        i += 1;
+        from = end;
     }
-    Object::Nothing
+    None
 }

@@ -1,10 +1,12 @@
-use Prim.Native.Nat.{◌-◌}
-use lib.ListN.{length}
+use Rattle.std.proofs.Common.{◌≡◌}
+use Rattle.std.specs.Iterator.Adapters.{zip_first, zip_second}
+use Rattle.std.specs.Slice.Iter.{chunks_exact_rest, chunks_exact_size, iter_rest}
 use Rattle.editor_terms.proofs.TableLaws.{Finding}
 use Rattle.editor_terms.proofs.table.find.Given as goal
 
-abbrev pub invariant-loop-i : goal.invariant-loop-i
-invariant-loop-i l = Finding l.ids l.ends l.raws l.wanted l.from l.i
-
-abbrev pub decreases-loop-i : goal.decreases-loop-i
-decreases-loop-i l = length l.ends - l.i
+abbrev pub invariant-loop-key : goal.invariant-loop-key
+invariant-loop-key l =
+    (goal.iterator-loop-key).can_next l.key-iterator ×
+    (goal.iterator-loop-key).is_finite l.key-iterator ×
+    (chunks_exact_size (zip_first l.key-iterator) ≡ 20) ×
+    Finding l.ids l.ends l.raws l.id.bytes l.from (chunks_exact_rest (zip_first l.key-iterator)) (iter_rest (zip_second l.key-iterator))
