@@ -3,7 +3,7 @@ use mathlib.Core.Path.{◌≡◌, refl, sym, ap, ap₂, ◌∙◌}
 use mathlib.Core.Bool.{Bool, true, false, true≢false}
 use denote.Enum.Bare.{sameb}
 use mathlib.Core.Option.{Option, none, some}
-use Rattle.std.specs.Prelude.{Option as Opt, Some, None}
+use Rattle.std.specs.Prelude.{Option as Opt, Some, None, Ok, Err}
 use Rattle.model.specs.Bytes.{Bytes}
 use Rattle.model.specs.Tree.{Mode, TREE, is_tree, Entry, entry_of, without, with_entry, null}
 use Rattle.model.specs.Walk.{ANY, LEAF, remove, upsert, stop, last, down, pick_turn, through, to_remove, removed, at_last, at_earlier, turn}
@@ -16,7 +16,7 @@ use Rattle.editor_terms.specs.Edits.{as_removal, parts_of, seen_as, TurnIs}
 use Rattle.editor_terms.specs.declared.id.Id.{Id}
 use Rattle.names.specs.declared.mode.EntryKind.{EntryKind}
 use Rattle.names.specs.declared.mode.EntryKind.TheVariants as K
-use Rattle.editor_terms.specs.declared.code.Code.TheVariants as C
+use Rattle.editor_terms.specs.declared.refusal.Refusal.TheVariants as C
 use Rattle.editor_terms.specs.declared.edit.RemoveKind.{RemoveKind}
 use Rattle.editor_terms.specs.declared.edit.RemoveKind.TheVariants as R
 use Rattle.editor_terms.specs.declared.edit.Edit.TheVariants as E
@@ -35,7 +35,7 @@ seen_some s (some e) h =
     (e, refl, sym (ap (λ (z : Mode × Bytes). z.0) q), sym (ap (λ (z : Mode × Bytes). z.1) q))
 
 -- a removal where nothing is
-pub removes_nothing : (k : RemoveKind) (b : Bool) → TurnIs (E.Remove k) b None (T.Stop C.Done)
+pub removes_nothing : (k : RemoveKind) (b : Bool) → TurnIs (E.Remove k) b None (T.Stop (Ok tt))
 unfolding turn at_last at_earlier removed to_remove seen seen_last seen_earlier
 removes_nothing k true =
     record {
@@ -61,7 +61,7 @@ cuts_any s =
       counts = λ n u o h. ap (λ (z : Option Entry). seen_last (remove ANY) n u z) (seen_some s o h).1;
     }
 
-pub refuses_tree : (s : Seen) → is_tree (as_mode s.kind) ≡ true → TurnIs (E.Remove R.Leaf) true (Some s) (T.Stop C.NotALeaf)
+pub refuses_tree : (s : Seen) → is_tree (as_mode s.kind) ≡ true → TurnIs (E.Remove R.Leaf) true (Some s) (T.Stop (Err C.NotALeaf))
 unfolding turn at_last removed seen seen_last
 refuses_tree s f =
     record {
@@ -125,7 +125,7 @@ module _ (s : Seen) where
             ap (λ (z : Option Entry). seen_earlier (remove (as_removal k)) n u z) x.1 ∙ ap₂ (λ (b : Bool) (l : Bytes). pick_sight b (goes u (some l)) (stays 0)) (ap is_tree x.2 ∙ f) x.3;
       }
 
-  pub removes_no_further : (k : RemoveKind) → is_tree (as_mode s.kind) ≡ false → TurnIs (E.Remove k) false (Some s) (T.Stop C.Done)
+  pub removes_no_further : (k : RemoveKind) → is_tree (as_mode s.kind) ≡ false → TurnIs (E.Remove k) false (Some s) (T.Stop (Ok tt))
   unfolding turn at_earlier to_remove seen seen_earlier
   removes_no_further k f =
       record {

@@ -103,7 +103,7 @@ module _ {ids : Bytes} {ends : List ℕ} {raws wanted : Bytes} {from : ℕ} {lef
           ≡ cond (same id wanted) (some (take (e - from) (drop from raws))) (raw_of 20 wanted rest more e (drop (e - from) (drop from raws)))
       step = k.rest ∙ ap₂ (λ (a : List ℕ) (b : Bytes). raw_of 20 wanted a b from (drop from raws)) q p
           ∙ ap₂ (λ (a b : Bytes). cond (same a wanted) (some (take (e - from) (drop from raws))) (raw_of 20 wanted rest b e (drop (e - from) (drop from raws))))
-              (ap (λ (n : ℕ). take n (id ++ more)) (sym w) ∙ take-append_seam id more) (ap (λ (n : ℕ). drop n (id ++ more)) (sym w) ∙ drop-append_seam id more)
+          (ap (λ (n : ℕ). take n (id ++ more)) (sym w) ∙ take-append_seam id more) (ap (λ (n : ℕ). drop n (id ++ more)) (sym w) ∙ drop-append_seam id more)
 
       pub find_here : same id wanted ≡ true → looked_up 20 (table_of ids ends raws) wanted ≡ some (take (e - from) (drop from raws))
       find_here f = step ∙ rw f

@@ -36,19 +36,19 @@ seen_as None = none
 
 -- the current tree after a turn at the name n, the id of the tree to load below, and the number of a walk that ends here
 abbrev pub changed : Turn → Bytes → Tree → Tree
-changed (Stop code) n t = t
+changed (Stop answer) n t = t
 changed Cut n t = without n t
 changed (Put kind id) n t = with_entry (entry kind n (id_bytes id)) t
 changed (Down id) n t = t
 
 abbrev pub wanted_by : Turn → Option Bytes
-wanted_by (Stop code) = none
+wanted_by (Stop answer) = none
 wanted_by Cut = none
 wanted_by (Put kind id) = none
 wanted_by (Down id) = some (id_bytes id)
 
 abbrev pub ends_with : Turn → ℕ
-ends_with (Stop code) = code_number code
+ends_with (Stop answer) = code_number answer
 ends_with Cut = 0
 ends_with (Put kind id) = 0
 ends_with (Down id) = 0
@@ -59,7 +59,7 @@ wanted_as None = none
 
 -- the model's turn that a turn is, at the last component or an earlier one
 abbrev pub turn_as : Turn → Bool → Bytes → Tree → walk.Turn
-turn_as (Stop code) is_last n t = walk.stop (code_number code)
+turn_as (Stop answer) is_last n t = walk.stop (code_number answer)
 turn_as Cut is_last n t = walk.last (changed Cut n t)
 turn_as (Put kind id) true n t = walk.last (changed (Put kind id) n t)
 turn_as (Put kind id) false n t = walk.down (changed (Put kind id) n t) none
@@ -77,13 +77,13 @@ put_counts (Some s) n u = u
 put_counts None n u = plus_name n u
 
 abbrev pub counts_after : Turn → Opt Seen → Bytes → Counts → Counts
-counts_after (Stop code) s n u = u
+counts_after (Stop answer) s n u = u
 counts_after Cut s n u = less_name n u
 counts_after (Put kind id) s n u = put_counts s n u
 counts_after (Down id) s n u = u
 
 abbrev pub sight_as : Turn → Bool → Opt Seen → Bytes → Counts → Sight
-sight_as (Stop code) is_last s n u = stays (code_number code)
+sight_as (Stop answer) is_last s n u = stays (code_number answer)
 sight_as Cut is_last s n u = ends (less_name n u)
 sight_as (Put kind id) true s n u = ends (put_counts s n u)
 sight_as (Put kind id) false s n u = goes (put_counts s n u) none

@@ -7,8 +7,8 @@ ghost use Rattle.editor_terms.specs.Answers.{code_number};
 ghost use Rattle.editor_terms.specs.Edits.{as_edit, TurnIs, turn_as, goes_on, wanted_by, wanted_as, ends_with};
 ghost use Rattle.editor_terms.specs.declared.edit.Edit.TheVariants.{Remove, Upsert};
 
-use crate::code::Code;
 use crate::id::Id;
+use crate::refusal::Refusal;
 use names::mode::EntryKind;
 
 #[derive(Clone, Copy, PartialEq, Eq)]
@@ -30,11 +30,11 @@ pub struct Seen {
     pub id: Id,
 }
 
-// What is done at a component: the walk stops with a number; or the entry goes, and the walk stops; or the entry has this kind and
+// What is done at a component: the walk stops with an answer; or the entry goes, and the walk stops; or the entry has this kind and
 // id now; or nothing is changed, and the walk goes down to the tree of this id.
 #[derive(Clone, Copy)]
 pub enum Turn {
-    Stop(Code),
+    Stop(Result<(), Refusal>),
     Cut,
     Put(EntryKind, Id),
     Down(Id),
@@ -45,7 +45,7 @@ fn remove_last(kind: RemoveKind, found: Seen) -> Turn
     ensures { TurnIs (Remove kind) true (Some found) result }
 {
     if kind == RemoveKind::Leaf && found.kind.is_tree() {
-        Turn::Stop(Code::NotALeaf)
+        Turn::Stop(Err(Refusal::NotALeaf))
     } else {
         Turn::Cut
     }
@@ -58,7 +58,7 @@ fn remove_turn(kind: RemoveKind, last: bool, seen: Option<Seen>) -> Turn
     match seen {
         Some(found) if last => remove_last(kind, found),
         Some(found) if found.kind.is_tree() => Turn::Down(found.id),
-        _ => Turn::Stop(Code::Done),
+        _ => Turn::Stop(Ok(())),
     }
 }
 
@@ -115,13 +115,13 @@ impl Turn {
         }
     }
 
-    // The number of a walk that ends after it.
-    pub fn end_code(self) -> Code
+    // What a walk answers that ends after it.
+    pub fn answer(self) -> Result<(), Refusal>
         ensures { code_number result ≡ ends_with self }
     {
         match self {
-            Turn::Stop(code) => code,
-            _ => Code::Done,
+            Turn::Stop(answer) => answer,
+            _ => Ok(()),
         }
     }
 }

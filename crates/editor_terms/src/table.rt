@@ -22,25 +22,61 @@ fn ends_ok(ends: &[u32], size: usize) -> bool
     true
 }
 
-// Whether the table is one: an id for each end offset, and offsets that do not fall.
-pub fn is_good(ids: &[u8], ends: &[u32], raws: &[u8]) -> bool
+// Whether the slices are a table: an id for each end offset, and offsets that do not fall.
+fn is_good(ids: &[u8], ends: &[u32], raws: &[u8]) -> bool
     ensures { result ≡ good_table 20 (table_of ids.now ends.now raws.now) }
 {
     ids.len() / WIDTH == ends.len() && ids.len() % WIDTH == 0 && ends_ok(ends, raws.len())
 }
 
-// The raw tree of the first object with the id, in a table that is one.
-pub fn find<'a>(ids: &[u8], ends: &[u32], raws: &'a [u8], id: Id) -> Option<&'a [u8]>
-    requires { good_table 20 (table_of ids.now ends.now raws.now) ≡ true }
-    ensures { looked_up 20 (table_of ids.now ends.now raws.now) (id_bytes id) ≡ raw_as result }
-{
-    let mut from = 0;
-    for (key, &end) in ids.chunks_exact(WIDTH).zip(ends) {
-        let end = end as usize;
-        if key == id.bytes.as_slice() {
-            return Some(&raws[from..end]);
+// An object table as it is lent.
+#[derive(Clone, Copy)]
+pub struct Table<'a> {
+    pub ids: &'a [u8],
+    pub ends: &'a [u32],
+    pub raws: &'a [u8],
+}
+
+// A table that is one.
+#[derive(Clone, Copy)]
+pub struct Objects<'a> {
+    pub ids: &'a [u8],
+    pub ends: &'a [u32],
+    pub raws: &'a [u8],
+    ghost good: { good_table 20 (table_of ids.now ends.now raws.now) ≡ true },
+}
+
+impl<'a> Table<'a> {
+    ghost use Rattle.editor_terms.specs.Tables.{ChecksAs};
+
+    // The same table, if it is one.
+    pub fn checked(self) -> Option<Objects<'a>>
+        ensures { ChecksAs self.entry result }
+    {
+        let Table { ids, ends, raws } = self;
+        if is_good(ids, ends, raws) {
+            Some(Objects { ids, ends, raws })
+        } else {
+            None
         }
-        from = end;
     }
-    None
+}
+
+impl<'a> Objects<'a> {
+    ghost use Rattle.editor_terms.specs.Tables.{objects_in};
+
+    // The raw tree of the first object with the id.
+    pub fn find(self, id: Id) -> Option<&'a [u8]>
+        ensures { looked_up 20 (objects_in self.entry) (id_bytes id) ≡ raw_as result }
+    {
+        let mut from = 0;
+        for (key, &end) in self.ids.chunks_exact(WIDTH).zip(self.ends) {
+            let end = end as usize;
+            if key == id.bytes.as_slice() {
+                return Some(&self.raws[from..end]);
+            }
+            from = end;
+        }
+        None
+    }
 }

@@ -10,6 +10,6 @@ returns-then-is_tree c = rw (is_leaf _ (sym c.eq.ensures ∙ c.if-eq.true)) (ref
 pub returns-else-eq : goal.returns-else-eq
 returns-else-eq c =
     elim c.else-eq.branch [
-      else-eq-via-then-eq+else-is_tree w ↦ cuts c.args.kind _ (sym w.is_tree.ensures ∙ w.if-is_tree.false)
-    | else-eq-via-else-eq w ↦ rw (is_any _ (sym c.eq.ensures ∙ w.if-eq.false)) (cuts_any _)
+      | else-eq-via-then-eq+else-is_tree w ↦ cuts c.args.kind _ (sym w.is_tree.ensures ∙ w.if-is_tree.false)
+      | else-eq-via-else-eq w ↦ rw (is_any _ (sym c.eq.ensures ∙ w.if-eq.false)) (cuts_any _)
     ]

@@ -9,8 +9,8 @@ loop-end-init c = check_begin _ _
 pub returns-then-end-from : goal.returns-then-end-from
 returns-then-end-from c =
     elim c.then-end-from.branch [
-      then-end-from-via-then-end-from w ↦ check_falls c.loop-end.invariant c.loop-end-test.true w.if-end-from.true
-    | then-end-from-via-else-end-from+then-size-end w ↦ check_passes c.loop-end.invariant c.loop-end-test.true w.if-end-from.false w.if-size-end.true
+      | then-end-from-via-then-end-from w ↦ check_falls c.loop-end.invariant c.loop-end-test.true w.if-end-from.true
+      | then-end-from-via-else-end-from+then-size-end w ↦ check_passes c.loop-end.invariant c.loop-end-test.true w.if-end-from.false w.if-size-end.true
     ]
 
 pub loop-end-preserved : goal.loop-end-preserved
