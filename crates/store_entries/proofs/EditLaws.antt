@@ -108,21 +108,27 @@ module _ {w : ℕ} {r : Record} {plens paths tlens trees : List ℕ} (L : Laid w
     pub absent : (kk : Bytes) → find key kk (unpack w z) ≡ none → Edited w r plens paths tlens trees k (del key kk t) r tlens trees
     absent kk n = unchanged (del key kk t) (del_absent key kk t (ap (λ (l : Bytes). find key kk (unpack w l)) (sym z_is) ∙ n))
 
-    pub missed : {kk : Bytes} {p : Place} → Tells w z (searched key kk (unpack w z)) (Err p) → find key kk t ≡ none
-    missed {kk = kk} {p = p} T = ap (λ (l : Bytes). find key kk (unpack w l)) (sym z_is) ∙ missing w z kk rising_run p T
+    pub missed : (kk : Bytes) {p : Place} → Tells w z (searched key kk (unpack w z)) (Err p) → find key kk t ≡ none
+    missed kk {p = p} T = ap (λ (l : Bytes). find key kk (unpack w l)) (sym z_is) ∙ missing w z kk rising_run p T
 
-    pub not_found : {kk : Bytes} {p : Place} → find key kk t ≡ none → Tells w z (searched key kk (unpack w z)) (Ok p) → ⊥
-    not_found {kk = kk} {p = p} n T = not_missing w z kk good_run rising_run p T (ap (λ (l : Bytes). find key kk (unpack w l)) z_is ∙ n)
+    pub not_found : (kk : Bytes) {p : Place} → find key kk t ≡ none → Tells w z (searched key kk (unpack w z)) (Ok p) → ⊥
+    not_found kk {p = p} n T = not_missing w z kk good_run rising_run p T (ap (λ (l : Bytes). find key kk (unpack w l)) z_is ∙ n)
 
     -- what the search of an entry's key says, of the slot's run
-    pub told : {b : Bool} {name : Bytes} {a : Result Place Place} (m : Mode) → b ≡ is_tree m → Tells w z (searched key (as_kind b name) (unpack w z)) a
+    pub told : {b : Bool} (name : Bytes) {a : Result Place Place} (m : Mode) → b ≡ is_tree m → Tells w z (searched key (as_kind b name) (unpack w z)) a
         → Tells w (run_of tlens trees k) (searched key (as_kind (is_tree m) name) (unpack w (run_of tlens trees k))) a
-    told {name = name} {a = a} m eb T =
+    told name {a = a} m eb T =
         subst (λ (l : Bytes). Tells w l (searched key (as_kind (is_tree m) name) (unpack w l)) a) here
         (subst (λ (x : Bool). Tells w z (searched key (as_kind x name) (unpack w z)) a) eb T)
 
+    pub told_back : (b : Bool) (name : Bytes) {a : Result Place Place} (m : Mode) → b ≡ is_tree m
+        → Tells w (run_of tlens trees k) (searched key (as_kind (is_tree m) name) (unpack w (run_of tlens trees k))) a → Tells w z (searched key (as_kind b name) (unpack w z)) a
+    told_back b name {a = a} m eb T =
+        subst (λ (l : Bytes). Tells w l (searched key (as_kind b name) (unpack w l)) a) (sym here)
+        (subst (λ (x : Bool). Tells w (run_of tlens trees k) (searched key (as_kind x name) (unpack w (run_of tlens trees k))) a) (sym eb) T)
+
     -- an entry that was found
-    module _ {kk : Bytes} {p : Place} (T : Tells w z (searched key kk (unpack w z)) (Ok p)) where
+    module _ (kk : Bytes) {p : Place} (T : Tells w z (searched key kk (unpack w z)) (Ok p)) where
       T' : Tells w B (searched key kk (unpack w B)) (Ok p)
       T' = subst (λ (l : Bytes). Tells w l (searched key kk (unpack w l)) (Ok p)) z_is T
 

@@ -188,9 +188,10 @@ fn add(
     let key = Key { name: given.name, tree: given.kind.is_tree() };
     let twin = tree.search_twin(key, place);
     if twin.is_ok() {
-        return replace(r, plens, paths, tlens, trees, width, slot, given);
+        replace(r, plens, paths, tlens, trees, width, slot, given)
+    } else {
+        insert_at(r, plens, paths, tlens, trees, width, slot, place, given)
     }
-    insert_at(r, plens, paths, tlens, trees, width, slot, place, given)
 }
 
 // Sets an entry: in place of the one of its name, in order, or as a new one.

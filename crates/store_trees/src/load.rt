@@ -31,15 +31,12 @@ fn fill_slot(
     ensures { (t : Tree) → read_tree width raw.now ≡ some t
         → Edited width r plens.now paths.now tlens.old trees.old slot t result tlens.new trees.new }
 {
-    let nt = r.trees;
     let n = entries * (2 + width) + name_bytes;
-    crate::gap::fill(tlens, trees, nt, slot, n, raw, width);
-    let t = nt + n;
-    let more = r.entries + entries;
+    crate::gap::fill(tlens, trees, r.trees, slot, n, raw, width);
     let bytes = r.names + name_bytes;
     Record {
-        trees: t,
-        entries: more,
+        trees: r.trees + n,
+        entries: r.entries + entries,
         names: bytes,
         ..r
     }
@@ -73,9 +70,8 @@ pub fn load(
     ensures same { (result.editor.hidden ≡ result.editor.free) × SameWrite r result.editor }
 {
     let one = store_slots::add_empty(r, plens, paths, tlens, trees, width, path);
-    let k = one.slot;
-    let q = fill_slot(
-        one.editor, plens, paths, tlens, trees, width, k, raw, entries, name_bytes,
+    let editor = fill_slot(
+        one.editor, plens, paths, tlens, trees, width, one.slot, raw, entries, name_bytes,
     );
-    Taken { slot: k, editor: q }
+    Taken { editor, ..one }
 }

@@ -21,14 +21,7 @@ pub struct Left {
 pub fn is_null(id: &[u8]) -> bool
     ensures { result ≡ same id.now (null (length id.now)) }
 {
-    let mut i = 0;
-    while i < id.len() {
-        if id[i] != 0 {
-            return false;
-        }
-        i += 1;
-    }
-    true
+    id.iter().all(|b| *b == 0)
 }
 
 // Moves the entries whose ids are not null to the front of a run, and says what is left.
@@ -37,21 +30,21 @@ fn close_up(run: &mut [u8], width: usize) -> Left
     ensures front { take result.used run.new ≡ packed_all (without_id (null width) (unpack width run.old)) }
     ensures counts { Fewer width run.old (length run.old) result }
 {
-    let mut i = 0;
-    let mut len = 0;
+    let mut at = 0;
+    let mut used = 0;
     let mut gone = 0;
-    while i < run.len() {
-        let m = 2 + width + run[i + 1] as usize;
-        let e = i + m;
-        if is_null(names::part::between(run, i + 2, width)) {
+    while at < run.len() {
+        let m = 2 + width + run[at + 1] as usize;
+        let end = at + m;
+        if is_null(names::part::between(run, at + 2, width)) {
             gone += 1;
         } else {
-            store_runs::moves::shift_down(run, len, e, i - len);
-            len += m;
+            store_runs::moves::shift(run, at, end, used);
+            used += m;
         }
-        i = e;
+        at = end;
     }
-    Left { used: len, gone }
+    Left { used, gone }
 }
 
 // Takes the null entries out of the run k, and says what is left.
@@ -65,10 +58,10 @@ fn close_run(lens: &mut [u64], bytes: &mut [u8], used: usize, k: usize, width: u
     let n = lens[k] as usize;
     let e = a + n;
     let left = close_up(&mut bytes[a..e], width);
-    let len = left.used;
-    let gone = left.gone;
-    let t = store_runs::runs::remove(lens, bytes, used, k, len, n - len);
-    Left { used: t, gone }
+    Left {
+        used: store_runs::runs::remove(lens, bytes, used, k, left.used, n - left.used),
+        gone: left.gone,
+    }
 }
 
 // Takes the entries whose ids are null out of a slot's tree.
@@ -84,17 +77,12 @@ pub fn drop_null(
     requires { Laid width r plens.now paths.now tlens.old trees.old × (width ≤ 64) × Used r slot }
     ensures { Edited width r plens.now paths.now tlens.old trees.old slot (without_id (null width) (tree_of width tlens.old trees.old slot)) result tlens.new trees.new }
 {
-    let nt = r.trees;
-    let left = close_run(tlens, trees, nt, slot, width);
-    let t = left.used;
-    let gone = left.gone;
-    let bytes = nt - t - gone * (2 + width);
-    let fewer = r.entries - gone;
-    let names = r.names - bytes;
+    let left = close_run(tlens, trees, r.trees, slot, width);
+    let bytes = r.trees - left.used - left.gone * (2 + width);
     Record {
-        trees: t,
-        entries: fewer,
-        names: names,
+        trees: left.used,
+        entries: r.entries - left.gone,
+        names: r.names - bytes,
         ..r
     }
 }

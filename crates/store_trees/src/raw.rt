@@ -5,6 +5,7 @@ ghost use Rattle.names.specs.Splice.{splice};
 ghost use Rattle.store_slots.specs.View.{tree_of};
 ghost use Rattle.store_trees.specs.Trees.{Readable};
 
+use names_compact::compact::Tree;
 use store_slots::Record;
 
 // How long the raw form of a slot's tree is.
@@ -12,8 +13,11 @@ pub fn raw_len_of(r: Record, tlens: &[u64], trees: &[u8], width: usize, slot: us
     requires { Readable width r tlens.now trees.now slot }
     ensures { result ≡ length (raw_tree (tree_of width tlens.now trees.now slot)) }
 {
-    let nt = r.trees;
-    names_compact::compact::raw_len(store_runs::runs::run(tlens, trees, nt, slot), width)
+    let tree = Tree {
+        bytes: store_slots::tree_in(r, tlens, trees, slot),
+        width,
+    };
+    tree.raw_len()
 }
 
 // Writes the raw form of a slot's tree to the front of out, and says how long it is.
@@ -29,6 +33,9 @@ pub fn put_raw(
     ensures value { result ≡ length (raw_tree (tree_of width tlens.now trees.now slot)) }
     ensures out_after { out.new ≡ splice out.old 0 (raw_tree (tree_of width tlens.now trees.now slot)) }
 {
-    let nt = r.trees;
-    names_compact::compact::put_tree(out, store_runs::runs::run(tlens, trees, nt, slot), width)
+    let tree = Tree {
+        bytes: store_slots::tree_in(r, tlens, trees, slot),
+        width,
+    };
+    tree.put_raw(out)
 }

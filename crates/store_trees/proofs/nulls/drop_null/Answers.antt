@@ -1,6 +1,5 @@
 -- `store_trees::nulls::drop_null` meets its contract: the record's counts lose what the run has lost. Assumes nothing.
 use mathlib.Core.Path.{refl}
-use Prim.Native.Nat.{◌+◌, ◌-◌, ◌*◌}
 use native.Mathlib.Omega.{arith}
 use Rattle.store_slots.proofs.Relaid.{run_in}
 use Rattle.store_trees.proofs.NullLaws.{gone_in, bytes_in_lem, names_left, dropping}
@@ -24,13 +23,13 @@ overflow_sub-bytes-2 c =
     let a = c.args in
     omega (arith, bytes_in_lem a.width a.r a.plens.now a.paths.now a.tlens.now a.trees.now c.requires.0 a.slot c.requires.2 c.close_run-left.result c.close_run-left.ensures.counts)
 
-pub overflow_sub-fewer : goal.overflow_sub-fewer
-overflow_sub-fewer c =
+pub overflow_sub-result : goal.overflow_sub-result
+overflow_sub-result c =
     let a = c.args in
     gone_in a.width a.r a.plens.now a.paths.now a.tlens.now a.trees.now c.requires.0 a.slot c.requires.2 c.close_run-left.result c.close_run-left.ensures.counts
 
-pub overflow_sub-names : goal.overflow_sub-names
-overflow_sub-names c =
+pub overflow_sub-result-2 : goal.overflow_sub-result-2
+overflow_sub-result-2 c =
     let a = c.args in
     names_left a.width a.r a.plens.now a.paths.now a.tlens.now a.trees.now c.requires.0 a.slot c.requires.2 c.close_run-left.result c.close_run-left.ensures.counts
 
@@ -38,6 +37,6 @@ pub returns : goal.returns
 returns c =
     let a = c.args in
     dropping a.width a.r a.plens.now a.paths.now a.tlens.now a.trees.now c.requires.0 a.slot c.requires.2 c.close_run-left.result c.close_run-left.ensures.counts
-    (record { free = a.r.free; hidden = a.r.hidden; paths = a.r.paths; trees = c.close_run-left.result.used; entries = a.r.entries - c.close_run-left.result.gone; names = a.r.names - (a.r.trees - c.close_run-left.result.used - c.close_run-left.result.gone * (2 + a.width)); «open» = a.r.«open»; aside = a.r.aside; stacked = a.r.stacked; asked = a.r.asked })
+    _
     c.close_run-left.new.lens c.close_run-left.new.bytes c.close_run-left.ensures.view c.close_run-left.auto.lens c.close_run-left.auto.bytes c.close_run-left.ensures.sound
     (record { free = refl; hidden = refl; paths = refl; write = record { «open» = refl; aside = refl; stacked = refl; asked = refl } }) refl refl
