@@ -23,7 +23,7 @@ use Rattle.model.proofs.SoundTrees.{sound_well, name_plain, find_key, del_absent
 use Rattle.model.proofs.RoomCounts.{name_of}
 use Rattle.model.proofs.WellFormedLaws.{sound_del, sound_distinct, well_with, good_del}
 use Rattle.store_runs.specs.Moves.{inserted, removed}
-use Rattle.names_compact.specs.Compact.{packed, packed_all, unpack, Run, blank, entry_at, spot_of, Tells}
+use Rattle.names_compact.specs.Compact.{packed, packed_all, unpack, Run, blank, entry_at, Tells}
 use Rattle.names_compact.specs.declared.compact.Place.{Place}
 use Rattle.names.specs.Splice.{splice}
 use Rattle.store_runs.proofs.MoveLaws.{splice_is}

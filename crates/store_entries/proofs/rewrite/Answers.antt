@@ -6,18 +6,20 @@ use Rattle.names.specs.Answers.{entry}
 use Rattle.names_compact.specs.Compact.{packed}
 use Rattle.names.specs.Splice.{splice}
 use Rattle.store_runs.proofs.RunLaws.{total_within, splice_view}
+use Rattle.store_entries.proofs.StoreLaws.{start_seen}
 use Rattle.store_entries.proofs.rewrite.Goals as goal
 
 pub overflow_add-a : goal.overflow_add-a
-overflow_add-a c = omega (arith, c.start.ensures, total_within c.args.tlens.now c.args.slot c.requires.1, c.requires.0.sum, c.requires.2, c.ranges.used.fits)
+overflow_add-a c = omega (arith, (start_seen _ _ _ _ c.view.ensures c.start.ensures), total_within c.args.s.now.tlens.now c.args.slot c.requires.1, c.requires.0.sum, c.requires.2, c.requires.0.fits)
 
 pub put_at-requires-clause-room : goal.put_at-requires-clause-room
-put_at-requires-clause-room c = omega (arith, c.start.ensures, total_within c.args.tlens.now c.args.slot c.requires.1, c.requires.0.sum, c.requires.2, c.requires.0.fits)
+put_at-requires-clause-room c = omega (arith, (start_seen _ _ _ _ c.view.ensures c.start.ensures), total_within c.args.s.now.tlens.now c.args.slot c.requires.1, c.requires.0.sum, c.requires.2, c.requires.0.fits)
 
-pub returns : goal.returns
-returns c =
+pub returns-clause-view : goal.returns-clause-view
+returns-clause-view c =
     let a = c.args in
+    let s = c.args.s.now in
     let g = a.given in
     let e = packed (entry g.kind g.name.now g.id.now) in
-    splice_view a.tlens.now a.trees.now a.used a.slot c.requires.0 c.requires.1 a.at e _ c.requires.2
-    (c.put_at.ensures.out_after ∙ ap (λ (x : ℕ). splice a.trees.now (x + a.at) e) c.start.ensures)
+    splice_view s.tlens.now s.trees.now s.ed.trees a.slot c.requires.0 c.requires.1 a.at e _ c.requires.2
+    (c.put_at.ensures.out_after ∙ ap (λ (x : ℕ). splice s.trees.now (x + a.at) e) (start_seen _ _ _ _ c.view.ensures c.start.ensures))
