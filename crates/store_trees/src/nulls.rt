@@ -4,11 +4,12 @@ ghost use Rattle.model.specs.Bytes.{same};
 ghost use Rattle.model.specs.Tree.{null, without_id};
 ghost use Rattle.names_compact.specs.Compact.{packed_all, unpack, Run};
 ghost use Rattle.store_runs.specs.Runs.{cut, with_run, Sound};
-ghost use Rattle.store_slots.specs.View.{Laid, tree_of, Used};
-ghost use Rattle.store_entries.specs.Entries.{Edited};
+ghost use Rattle.store_slots.specs.View.{Used};
+ghost use Rattle.store_slots.specs.Stores.{LaidIn, tree_in_slot};
+ghost use Rattle.store_entries.specs.Entries.{EditedIn};
 ghost use Rattle.store_trees.specs.Trees.{Fewer};
 
-use store_slots::Record;
+use store_slots::Store;
 
 // The bytes then in use, and how many entries are gone.
 #[derive(Clone, Copy)]
@@ -65,24 +66,14 @@ fn close_run(lens: &mut [u64], bytes: &mut [u8], used: usize, k: usize, width: u
 }
 
 // Takes the entries whose ids are null out of a slot's tree.
-pub fn drop_null(
-    r: Record,
-    plens: &[u64],
-    paths: &[u8],
-    tlens: &mut [u64],
-    trees: &mut [u8],
-    width: usize,
-    slot: usize,
-) -> Record
-    requires { Laid width r plens.now paths.now tlens.old trees.old × (width ≤ 64) × Used r slot }
-    ensures { Edited width r plens.now paths.now tlens.old trees.old slot (without_id (null width) (tree_of width tlens.old trees.old slot)) result tlens.new trees.new }
+pub fn drop_null(s: &mut Store<'_>, width: usize, slot: usize)
+    requires { LaidIn width s.old × (width ≤ 64) × Used s.old.ed slot }
+    ensures { EditedIn width s.old slot (without_id (null width) (tree_in_slot width s.old slot)) s.new }
 {
-    let left = close_run(tlens, trees, r.trees, slot, width);
+    let r = s.ed;
+    let left = close_run(&mut *s.tlens, &mut *s.trees, r.trees, slot, width);
     let bytes = r.trees - left.used - left.gone * (2 + width);
-    Record {
-        trees: left.used,
-        entries: r.entries - left.gone,
-        names: r.names - bytes,
-        ..r
-    }
+    s.ed.trees = left.used;
+    s.ed.entries = r.entries - left.gone;
+    s.ed.names = r.names - bytes;
 }
