@@ -9,6 +9,7 @@ use Rattle.model.specs.Order.{All}
 use Rattle.model.specs.Valid.{has_parent}
 use Rattle.store_slots.specs.View.{path_of, aside_of}
 use Rattle.store_slots.specs.declared.Record.{Record}
+use Rattle.store_slots.specs.declared.Store.{Store}
 use Rattle.store_taken.specs.Taken.{stacked_on, taken_off, SameSlots, Between}
 
 -- a cached tree that was found is taken off the cache and stacked
@@ -71,6 +72,9 @@ pub record Child (w : ℕ) (r : Record) (plens paths tlens trees order : List �
   pub between : Between r order (k ∷ [])
   pub parent : has_parent (path_of plens paths k) (aside_of w r plens paths tlens trees order) ≡ true
 
+abbrev pub ChildIn : ℕ → Store → List ℕ → ℕ → Type 0
+ChildIn w s order k = Child w s.ed s.plens.now s.paths.now s.tlens.now s.trees.now order k
+
 -- ---- a turn to its end
 
 -- what a turn leaves: the write goes on, or this tree is requested
@@ -98,6 +102,9 @@ next_of nil g = ended nil (turned g).finish (turned g).hand (turned g).rest
 pub record Hand (w : ℕ) (r : Record) (plens paths tlens trees order : List ℕ) (k : ℕ) : Type 0 where
   pub between : Between r order (k ∷ [])
   pub parent : is_nil (aside_of w r plens paths tlens trees order) ≡ false → has_parent (path_of plens paths k) (aside_of w r plens paths tlens trees order) ≡ true
+
+abbrev pub HandIn : ℕ → Store → List ℕ → ℕ → Type 0
+HandIn w s order k = Hand w s.ed s.plens.now s.paths.now s.tlens.now s.trees.now order k
 
 -- what a turn asks: a tree is stacked or set aside, the stacked ones' paths are short, and the tree that is to be finished has its parent set aside
 pub record Ready (g : Going) : Type 0 where

@@ -16,20 +16,15 @@ use names::limits::FULL;
 use store_slots::{Found, Record};
 
 // Takes the cached tree at a path off the cache and stacks it, if the path is a tree entry's and one is cached there.
-fn take_kid(
-    r: Record,
-    plens: &[u64],
-    paths: &[u8],
-    order: &mut [u64],
-    path: &[u8],
-    is_tree: bool,
-) -> Record
-    requires { Sound plens.now paths.now r.paths × (length plens.now ≡ 64) × ((hand : List ℕ) × Between r order.old hand) }
-    ensures going { (w : ℕ) (tlens trees : List ℕ) → Laid w r plens.now paths.now tlens trees →
-        going_of w result plens.now paths.now tlens trees order.new
-        ≡ kid_on (cond is_tree (find at path.now (cached_of w r plens.now paths.now tlens trees)) none) (going_of w r plens.now paths.now tlens trees order.old) }
-    ensures between { (hand : List ℕ) → Between r order.old hand → Between result order.new hand }
-    ensures same { Stacks r result }
+fn take_kid(s: &mut Store<'_>, order: &mut [u64], path: &[u8], is_tree: bool)
+    requires { Sound s.old.plens.now s.old.paths.now s.old.ed.paths × (length s.old.plens.now ≡ 64) × ((hand : List ℕ) × Between s.old.ed order.old hand) }
+    ensures going { (w : ℕ) (tlens trees : List ℕ) → Laid w s.old.ed s.old.plens.now s.old.paths.now tlens trees →
+        going_of w s.new.ed s.old.plens.now s.old.paths.now tlens trees order.new
+        ≡ kid_on (cond is_tree (find at path.now (cached_of w s.old.ed s.old.plens.now s.old.paths.now tlens trees)) none) (going_of w s.old.ed s.old.plens.now s.old.paths.now tlens trees order.old) }
+    ensures between { (hand : List ℕ) → Between s.old.ed order.old hand → Between s.new.ed order.new hand }
+    ensures same { Stacks s.old.ed s.new.ed }
+    ensures lent { SameLent s.old s.new }
+    ensures keys { SameKeys s.old s.new }
 {
     if !is_tree {
         return r;
@@ -51,22 +46,16 @@ fn put_name(buf: &mut [u8; FULL], n: usize, tree: &[u8], width: usize, at: usize
 }
 
 // Scans the entries of the tree at a path.
-fn scan_entries(
-    r: Record,
-    plens: &[u64],
-    paths: &[u8],
-    order: &mut [u64],
-    prefix: &[u8],
-    tree: &[u8],
-    width: usize,
-) -> Record
-    requires { Sound plens.now paths.now r.paths × (length plens.now ≡ 64) × ((hand : List ℕ) × Between r order.old hand)
+fn scan_entries(s: &mut Store<'_>, order: &mut [u64], prefix: &[u8], tree: &[u8], width: usize)
+    requires { Sound s.old.plens.now s.old.paths.now s.old.ed.paths × (length s.old.plens.now ≡ 64) × ((hand : List ℕ) × Between s.old.ed order.old hand)
         × (length prefix.now ≤ 1024) × Run width tree.now × (width ≤ 64) }
-    ensures going { (tlens trees : List ℕ) → Laid width r plens.now paths.now tlens trees →
-        going_of width result plens.now paths.now tlens trees order.new
-        ≡ scanned_on prefix.now (unpack width tree.now) (going_of width r plens.now paths.now tlens trees order.old) }
-    ensures between { (hand : List ℕ) → Between r order.old hand → Between result order.new hand }
-    ensures same { Stacks r result }
+    ensures going { (tlens trees : List ℕ) → Laid width s.old.ed s.old.plens.now s.old.paths.now tlens trees →
+        going_of width s.new.ed s.old.plens.now s.old.paths.now tlens trees order.new
+        ≡ scanned_on prefix.now (unpack width tree.now) (going_of width s.old.ed s.old.plens.now s.old.paths.now tlens trees order.old) }
+    ensures between { (hand : List ℕ) → Between s.old.ed order.old hand → Between s.new.ed order.new hand }
+    ensures same { Stacks s.old.ed s.new.ed }
+    ensures lent { SameLent s.old s.new }
+    ensures keys { SameKeys s.old s.new }
 {
     let mut buf = [0u8; FULL];
     let n = names::full::put_prefix(&mut buf, prefix);
@@ -84,22 +73,15 @@ fn scan_entries(
 }
 
 // Scans the tree in hand.
-pub fn scan(
-    r: Record,
-    plens: &[u64],
-    paths: &[u8],
-    tlens: &[u64],
-    trees: &[u8],
-    order: &mut [u64],
-    width: usize,
-    slot: usize,
-) -> Record
-    requires { Laid width r plens.now paths.now tlens.now trees.now × (width ≤ 64) × Between r order.old (slot ∷ []) × (length (path_of plens.now paths.now slot) ≤ 1024) }
-    ensures going { going_of width result plens.now paths.now tlens.now trees.now order.new
-        ≡ scanned_on (held_at width plens.now paths.now tlens.now trees.now slot).path (held_at width plens.now paths.now tlens.now trees.now slot).held
-        (going_of width r plens.now paths.now tlens.now trees.now order.old) }
-    ensures between { Between result order.new (slot ∷ []) }
-    ensures same { Stacks r result }
+pub fn scan(s: &mut Store<'_>, order: &mut [u64], width: usize, slot: usize)
+    requires { LaidIn width s.old × (width ≤ 64) × Between s.old.ed order.old (slot ∷ []) × (length (path_in_slot s.old slot) ≤ 1024) }
+    ensures going { going_of width s.new.ed s.old.plens.now s.old.paths.now s.old.tlens.now s.old.trees.now order.new
+        ≡ scanned_on (held_in_slot width s.old slot).path (held_in_slot width s.old slot).held
+        (going_in width s.old order.old) }
+    ensures between { Between s.new.ed order.new (slot ∷ []) }
+    ensures same { Stacks s.old.ed s.new.ed }
+    ensures lent { SameLent s.old s.new }
+    ensures keys { SameKeys s.old s.new }
 {
     let prefix = store_slots::path_in(r, plens, paths, slot);
     let tree = store_slots::tree_in(r, tlens, trees, slot);

@@ -11,7 +11,7 @@ ghost use Rattle.store_runs.specs.Digits.{digits};
 ghost use Rattle.store_runs.specs.Runs.{cut, Sound};
 ghost use Rattle.store_slots.specs.View.{Laid, Used, Ordered, SameWrite, editor_of, held_at, cached_of};
 ghost use Rattle.store_slots.specs.Stores.{LaidIn, SameLent, cached_in, held_in_slot};
-ghost use Rattle.store_taken.specs.Taken.{going_of, stacked_on, kept_on, taken_off, Between, Cached, SameSlots, SameTree, writing_of, all_taken, joined, mark_if};
+ghost use Rattle.store_taken.specs.Taken.{going_in, going_of, stacked_on, kept_on, taken_off, Between, Cached, SameSlots, SameTree, writing_of, all_taken, joined, mark_if};
 
 use names::limits::SLOTS;
 use names_compact::compact::Tree;
@@ -84,8 +84,8 @@ pub fn ask(ed: &mut Record, slot: usize)
 // Drops the tree in hand.
 pub fn drop_taken(s: &mut Store<'_>, width: usize, slot: usize)
     requires { LaidIn width s.old × (width ≤ 64) × ((order : List ℕ) × Between s.old.ed order (slot ∷ [])) }
-    ensures going { (order : List ℕ) → Between s.old.ed order (slot ∷ []) → going_of width s.new.ed s.new.plens.now s.new.paths.now s.new.tlens.now s.new.trees.now order
-        ≡ going_of width s.old.ed s.old.plens.now s.old.paths.now s.old.tlens.now s.old.trees.now order }
+    ensures going { (order : List ℕ) → Between s.old.ed order (slot ∷ []) → going_in width s.new order
+        ≡ going_in width s.old order }
     ensures between { (order : List ℕ) → Between s.old.ed order (slot ∷ []) → Between s.new.ed order [] }
     ensures laid { LaidIn width s.new }
     ensures others { ((k : ℕ) → (k ≡ slot → ⊥) → SameTree s.old.plens.now s.old.paths.now s.old.tlens.now s.old.trees.now s.new.plens.now s.new.paths.now s.new.tlens.now s.new.trees.now k)
