@@ -10,6 +10,8 @@ use Rattle.model.specs.Valid.{has_parent}
 use Rattle.store_slots.specs.View.{path_of, aside_of}
 use Rattle.store_slots.specs.declared.Record.{Record}
 use Rattle.store_slots.specs.declared.Store.{Store}
+use Rattle.editor_write_steps.specs.declared.pick.Picked.{Picked}
+use Rattle.editor_write_steps.specs.declared.pick.Picked.TheVariants.{Finish, Aside}
 use Rattle.store_taken.specs.Taken.{stacked_on, taken_off, SameSlots, Between}
 
 -- a cached tree that was found is taken off the cache and stacked
@@ -53,6 +55,15 @@ turn_of (h ∷ s) k c = top_turn h (record { cache = c; stack = s; kept = k }) (
 
 abbrev pub turned : Going → Turn
 turned g = turn_of g.stack g.kept g.cache
+
+-- whether the tree that was taken is to be finished, and its slot
+abbrev pub is_finish : Picked → Bool
+is_finish (Finish k) = true
+is_finish (Aside k) = false
+
+abbrev pub slot_in : Picked → ℕ
+slot_in (Finish k) = k
+slot_in (Aside k) = k
 
 -- the slot in hand after a turn
 abbrev pub hand_of : Bool → ℕ → List ℕ

@@ -7,8 +7,10 @@ ghost use Rattle.store_slots.specs.View.{Laid, Used, SameWrite, path_of, view_of
 ghost use Rattle.store_taken.specs.Taken.{going_of, Between};
 ghost use Rattle.editor_write_steps.specs.Writes.{unlinked_on, linked_on, Child};
 
+use names::limits::NAME;
 use names::mode::EntryKind;
-use store_slots::{Found, Record};
+use names::write::Entry;
+use store_slots::{Store, View};
 
 // The slot of the tree that the tree in a slot lies below.
 fn parent_of(v: View<'_>, slot: usize) -> usize
@@ -16,11 +18,16 @@ fn parent_of(v: View<'_>, slot: usize) -> usize
         × ((j : ℕ) × Used v.ed j × (path_of v.plens.now v.paths.now j ≡ dir (path_of v.plens.now v.paths.now slot))) }
     ensures { Used v.entry.ed result × (path_of v.entry.plens.now v.entry.paths.now result ≡ dir (path_of v.entry.plens.now v.entry.paths.now slot)) }
 {
-    let path = names::path::parent(store_slots::path_in(r, plens, paths, slot));
-    match store_slots::find_used(r, plens, paths, path) {
-        Found::At(k) => k,
-        Found::Nothing => slot,
-    }
+    let path = names::path::parent(v.path_in(slot));
+    v.find_used(path).unwrap_or(slot)
+}
+
+// Writes the name of the tree in a slot to the front of the buffer, and says how long it is.
+fn put_name(name: &mut [u8; NAME], v: View<'_>, slot: usize) -> usize
+    requires { Sound v.plens.now v.paths.now v.ed.paths × (slot < length v.plens.now) × (length (base (path_of v.plens.now v.paths.now slot)) ≤ 255) }
+    ensures { (result ≡ length (base (path_of v.entry.plens.now v.entry.paths.now slot))) × (take result name.new ≡ base (path_of v.entry.plens.now v.entry.paths.now slot)) }
+{
+    names::write::put(name, 0, names::path::filename(v.path_in(slot)))
 }
 
 // Removes the entry of the tree in hand from its parent.
@@ -34,9 +41,10 @@ fn remove_entry(s: &mut Store<'_>, width: usize, slot: usize)
     ensures lent { SameLent s.old s.new }
     ensures keys { SameKeys s.old s.new }
 {
-    let k = parent_of(r, plens, paths, slot);
-    let name = names::path::filename(store_slots::path_in(r, plens, paths, slot));
-    store_entries::remove(r, plens, paths, tlens, trees, width, k, name)
+    let mut name = [0u8; NAME];
+    let n = put_name(&mut name, s.view(), slot);
+    let parent = parent_of(s.view(), slot);
+    store_entries::remove(s, width, parent, &name[..n]);
 }
 
 // An empty tree's entry in its parent goes, and the tree itself.
@@ -49,8 +57,8 @@ pub fn unlink(s: &mut Store<'_>, width: usize, slot: usize)
     ensures same { SameWrite s.old.ed s.new.ed }
     ensures lent { SameLent s.old s.new }
 {
-    let one = remove_entry(r, plens, paths, tlens, trees, width, slot);
-    store_taken::drop_taken(one, plens, paths, tlens, trees, width, slot)
+    remove_entry(s, width, slot);
+    store_taken::drop_taken(s, width, slot);
 }
 
 // Sets the id of the entry of the tree in hand in its parent.
@@ -65,20 +73,15 @@ fn set_entry(s: &mut Store<'_>, width: usize, slot: usize, id: &[u8])
     ensures lent { SameLent s.old s.new }
     ensures keys { SameKeys s.old s.new }
 {
-    let k = parent_of(r, plens, paths, slot);
-    let name = names::path::filename(store_slots::path_in(r, plens, paths, slot));
-    store_entries::set(
-        r,
-        plens,
-        paths,
-        tlens,
-        trees,
-        width,
-        k,
-        EntryKind::Tree,
+    let mut name = [0u8; NAME];
+    let n = put_name(&mut name, s.view(), slot);
+    let parent = parent_of(s.view(), slot);
+    let entry = Entry {
+        kind: EntryKind::Tree,
+        name: &name[..n],
         id,
-        name,
-    )
+    };
+    store_entries::set(s, width, parent, entry);
 }
 
 // A finished tree's entry in its parent has this id now, and the tree itself goes.
@@ -92,6 +95,6 @@ pub fn link(s: &mut Store<'_>, width: usize, slot: usize, id: &[u8])
     ensures same { SameWrite s.old.ed s.new.ed }
     ensures lent { SameLent s.old s.new }
 {
-    let one = set_entry(r, plens, paths, tlens, trees, width, slot, id);
-    store_taken::drop_taken(one, plens, paths, tlens, trees, width, slot)
+    set_entry(s, width, slot, id);
+    store_taken::drop_taken(s, width, slot);
 }
