@@ -15,23 +15,11 @@ use names::mode::{Mode, ModeRead};
 use store_slots::Record;
 
 // An edit at a path below a prefix.
-fn numbered_edit(
-    ed: Record,
-    plens: &mut [u64],
-    paths: &mut [u8],
-    tlens: &mut [u64],
-    trees: &mut [u8],
-    order: &[u64],
-    ids: &[u8],
-    ends: &[u32],
-    raws: &[u8],
-    prefix: &[u8],
-    path: &[u8],
-    edit: Edit,
-) -> Numbered
-    ensures { Does (model.edited sha1 (table_of ids.now ends.now raws.now) (as_edit edit) false prefix.now path.now)
-        (lent ed plens.old paths.old tlens.old trees.old order.now) result.code
-        (lent result.ed plens.new paths.new tlens.new trees.new order.now) }
+fn numbered_edit(s: &mut Store<'_>, order: &[u64], table: Table<'_>, prefix: &[u8], path: &[u8], edit: Edit) -> u8
+    ensures done { Does (model.edited sha1 (table_in table.entry) (as_edit edit) false prefix.now path.now)
+        (lent_in s.old order.now) result
+        (lent_in s.new order.now) }
+    ensures lent { SameLent s.old s.new }
 {
     let a = editor::edit::edit(
         ed, plens, paths, tlens, trees, order, ids, ends, raws, prefix, path, edit, false,
@@ -45,24 +33,11 @@ fn numbered_edit(
 }
 
 // Sets the entry at a path below a prefix: 255 where the mode is none of the five, or the id has not 20 bytes.
-pub fn upsert(
-    ed: Record,
-    plens: &mut [u64],
-    paths: &mut [u8],
-    tlens: &mut [u64],
-    trees: &mut [u8],
-    order: &[u64],
-    ids: &[u8],
-    ends: &[u32],
-    raws: &[u8],
-    prefix: &[u8],
-    path: &[u8],
-    id: &[u8],
-    mode: u32,
-) -> Numbered
-    ensures { Numbers (put_by (table_of ids.now ends.now raws.now) mode id.now prefix.now path.now)
-        (lent ed plens.old paths.old tlens.old trees.old order.now) result.code
-        (lent result.ed plens.new paths.new tlens.new trees.new order.now) }
+pub fn upsert(s: &mut Store<'_>, order: &[u64], table: Table<'_>, prefix: &[u8], path: &[u8], id: &[u8], mode: u32) -> u8
+    ensures done { Numbers (put_by (table_in table.entry) mode id.now prefix.now path.now)
+        (lent_in s.old order.now) result
+        (lent_in s.new order.now) }
+    ensures lent { SameLent s.old s.new }
 {
     if id.len() != WIDTH {
         return Numbered { code: 255, ed };
@@ -79,22 +54,11 @@ pub fn upsert(
 }
 
 // Removes the entry at a path below a prefix.
-pub fn remove(
-    ed: Record,
-    plens: &mut [u64],
-    paths: &mut [u8],
-    tlens: &mut [u64],
-    trees: &mut [u8],
-    order: &[u64],
-    ids: &[u8],
-    ends: &[u32],
-    raws: &[u8],
-    prefix: &[u8],
-    path: &[u8],
-) -> Numbered
-    ensures { Does (model.edited sha1 (table_of ids.now ends.now raws.now) (walk.remove walk.ANY) false prefix.now path.now)
-        (lent ed plens.old paths.old tlens.old trees.old order.now) result.code
-        (lent result.ed plens.new paths.new tlens.new trees.new order.now) }
+pub fn remove(s: &mut Store<'_>, order: &[u64], table: Table<'_>, prefix: &[u8], path: &[u8]) -> u8
+    ensures done { Does (model.edited sha1 (table_in table.entry) (walk.remove walk.ANY) false prefix.now path.now)
+        (lent_in s.old order.now) result
+        (lent_in s.new order.now) }
+    ensures lent { SameLent s.old s.new }
 {
     let edit = Edit::Remove(RemoveKind::Any);
     numbered_edit(
@@ -103,22 +67,11 @@ pub fn remove(
 }
 
 // Removes the entry at a path below a prefix, which must not be a tree.
-pub fn remove_leaf(
-    ed: Record,
-    plens: &mut [u64],
-    paths: &mut [u8],
-    tlens: &mut [u64],
-    trees: &mut [u8],
-    order: &[u64],
-    ids: &[u8],
-    ends: &[u32],
-    raws: &[u8],
-    prefix: &[u8],
-    path: &[u8],
-) -> Numbered
-    ensures { Does (model.edited sha1 (table_of ids.now ends.now raws.now) (walk.remove walk.LEAF) false prefix.now path.now)
-        (lent ed plens.old paths.old tlens.old trees.old order.now) result.code
-        (lent result.ed plens.new paths.new tlens.new trees.new order.now) }
+pub fn remove_leaf(s: &mut Store<'_>, order: &[u64], table: Table<'_>, prefix: &[u8], path: &[u8]) -> u8
+    ensures done { Does (model.edited sha1 (table_in table.entry) (walk.remove walk.LEAF) false prefix.now path.now)
+        (lent_in s.old order.now) result
+        (lent_in s.new order.now) }
+    ensures lent { SameLent s.old s.new }
 {
     let edit = Edit::Remove(RemoveKind::Leaf);
     numbered_edit(
@@ -127,21 +80,11 @@ pub fn remove_leaf(
 }
 
 // Opens a cursor at a path, where a tree is then cached.
-pub fn cursor_at(
-    ed: Record,
-    plens: &mut [u64],
-    paths: &mut [u8],
-    tlens: &mut [u64],
-    trees: &mut [u8],
-    order: &[u64],
-    ids: &[u8],
-    ends: &[u32],
-    raws: &[u8],
-    path: &[u8],
-) -> Numbered
-    ensures { Does (model.opened sha1 (table_of ids.now ends.now raws.now) path.now)
-        (lent ed plens.old paths.old tlens.old trees.old order.now) result.code
-        (lent result.ed plens.new paths.new tlens.new trees.new order.now) }
+pub fn cursor_at(s: &mut Store<'_>, order: &[u64], table: Table<'_>, path: &[u8]) -> u8
+    ensures done { Does (model.opened sha1 (table_in table.entry) path.now)
+        (lent_in s.old order.now) result
+        (lent_in s.new order.now) }
+    ensures lent { SameLent s.old s.new }
 {
     let o = editor::cursor::cursor_at(ed, plens, paths, tlens, trees, order, ids, ends, raws, path);
     let code = o.code;

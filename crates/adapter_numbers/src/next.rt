@@ -28,24 +28,13 @@ fn arguments_ok(id: &[u8], path: &[u8], lens: &[usize], next: &[u8]) -> bool
 
 // Answers the open request with the id of the tree that was requested, and reads the request that is open then: 255 where the id has not 20 bytes, or
 // where there is no room.
-pub fn answer_and_request(
-    ed: Record,
-    plens: &mut [u64],
-    paths: &mut [u8],
-    tlens: &mut [u64],
-    trees: &mut [u8],
-    order: &mut [u64],
-    id: &[u8],
-    out: &mut [u8],
-    path: &mut [u8],
-    lens: &mut [usize],
-    next: &mut [u8],
-) -> Numbered
-    ensures { AnswersAndAsks id.now
-        (lent ed plens.old paths.old tlens.old trees.old order.old)
-        (slices out.old path.old lens.old) next.old result.code
-        (lent result.ed plens.new paths.new tlens.new trees.new order.new)
+pub fn answer_and_request(s: &mut Store<'_>, order: &mut [u64], id: &[u8], out: &mut [u8], path: &mut [u8], lens: &mut [usize], next: &mut [u8]) -> u8
+    ensures done { AnswersAndAsks id.now
+        (lent_in s.old order.old)
+        (slices out.old path.old lens.old) next.old result
+        (lent_in s.new order.new)
         (slices out.new path.new lens.new) next.new }
+    ensures lent { SameLent s.old s.new }
 {
     if !arguments_ok(id, path, lens, next) {
         return Numbered { code: 255, ed };

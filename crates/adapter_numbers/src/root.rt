@@ -8,18 +8,11 @@ use crate::Numbered;
 use store_slots::Record;
 
 // Makes an editor with this root.
-pub fn new(
-    ed: Record,
-    plens: &mut [u64],
-    paths: &mut [u8],
-    tlens: &mut [u64],
-    trees: &mut [u8],
-    order: &[u64],
-    raw: &[u8],
-) -> Numbered
-    ensures { Makes raw.now
-        (lent ed plens.old paths.old tlens.old trees.old order.now) result.code
-        (lent result.ed plens.new paths.new tlens.new trees.new order.now) }
+pub fn new(s: &mut Store<'_>, order: &[u64], raw: &[u8]) -> u8
+    ensures done { Makes raw.now
+        (lent_in s.old order.now) result
+        (lent_in s.new order.now) }
+    ensures lent { SameLent s.old s.new }
 {
     let a = editor::root::new(ed, plens, paths, tlens, trees, order, raw);
     let code = a.code;
@@ -31,18 +24,11 @@ pub fn new(
 }
 
 // Sets the root, and drops every cached tree.
-pub fn set_root(
-    ed: Record,
-    plens: &mut [u64],
-    paths: &mut [u8],
-    tlens: &mut [u64],
-    trees: &mut [u8],
-    order: &[u64],
-    raw: &[u8],
-) -> Numbered
-    ensures { Does (set_root sha1 raw.now)
-        (lent ed plens.old paths.old tlens.old trees.old order.now) result.code
-        (lent result.ed plens.new paths.new tlens.new trees.new order.now) }
+pub fn set_root(s: &mut Store<'_>, order: &[u64], raw: &[u8]) -> u8
+    ensures done { Does (set_root sha1 raw.now)
+        (lent_in s.old order.now) result
+        (lent_in s.new order.now) }
+    ensures lent { SameLent s.old s.new }
 {
     let a = editor::root::set_root(ed, plens, paths, tlens, trees, order, raw);
     let code = a.code;

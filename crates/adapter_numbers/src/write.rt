@@ -10,17 +10,11 @@ use names::limits::WIDTH;
 use store_slots::Record;
 
 // Begins a write from the root.
-pub fn begin(
-    ed: Record,
-    plens: &mut [u64],
-    paths: &mut [u8],
-    tlens: &mut [u64],
-    trees: &mut [u8],
-    order: &mut [u64],
-) -> Numbered
-    ensures { Does (begun sha1 from_root)
-        (lent ed plens.old paths.old tlens.old trees.old order.old) result.code
-        (lent result.ed plens.new paths.new tlens.new trees.new order.new) }
+pub fn begin(s: &mut Store<'_>, order: &mut [u64]) -> u8
+    ensures done { Does (begun sha1 from_root)
+        (lent_in s.old order.old) result
+        (lent_in s.new order.new) }
+    ensures lent { SameLent s.old s.new }
 {
     let a = editor_write::begin::begin(ed, plens, paths, tlens, trees, order);
     let code = a.code;
@@ -32,18 +26,11 @@ pub fn begin(
 }
 
 // Begins a write from the tree cached at a prefix.
-pub fn begin_at(
-    ed: Record,
-    plens: &mut [u64],
-    paths: &mut [u8],
-    tlens: &mut [u64],
-    trees: &mut [u8],
-    order: &mut [u64],
-    prefix: &[u8],
-) -> Numbered
-    ensures { Does (begun sha1 (from_cursor prefix.now))
-        (lent ed plens.old paths.old tlens.old trees.old order.old) result.code
-        (lent result.ed plens.new paths.new tlens.new trees.new order.new) }
+pub fn begin_at(s: &mut Store<'_>, order: &mut [u64], prefix: &[u8]) -> u8
+    ensures done { Does (begun sha1 (from_cursor prefix.now))
+        (lent_in s.old order.old) result
+        (lent_in s.new order.new) }
+    ensures lent { SameLent s.old s.new }
 {
     let a = editor_write::begin::begin_at(ed, plens, paths, tlens, trees, order, prefix);
     let code = a.code;
@@ -55,18 +42,11 @@ pub fn begin_at(
 }
 
 // Answers the open request with the id of the tree that was requested: 255 where it has not 20 bytes.
-pub fn answer(
-    ed: Record,
-    plens: &mut [u64],
-    paths: &mut [u8],
-    tlens: &mut [u64],
-    trees: &mut [u8],
-    order: &mut [u64],
-    id: &[u8],
-) -> Numbered
-    ensures { Numbers (answer_by id.now)
-        (lent ed plens.old paths.old tlens.old trees.old order.old) result.code
-        (lent result.ed plens.new paths.new tlens.new trees.new order.new) }
+pub fn answer(s: &mut Store<'_>, order: &mut [u64], id: &[u8]) -> u8
+    ensures done { Numbers (answer_by id.now)
+        (lent_in s.old order.old) result
+        (lent_in s.new order.new) }
+    ensures lent { SameLent s.old s.new }
 {
     if id.len() != WIDTH {
         return Numbered { code: 255, ed };
@@ -89,17 +69,11 @@ pub fn answer(
 }
 
 // Fails the open request: the start tree goes back as it stands, the other taken trees are lost.
-pub fn fail(
-    ed: Record,
-    plens: &mut [u64],
-    paths: &mut [u8],
-    tlens: &mut [u64],
-    trees: &mut [u8],
-    order: &[u64],
-) -> Numbered
-    ensures { Does failed
-        (lent ed plens.old paths.old tlens.old trees.old order.now) result.code
-        (lent result.ed plens.new paths.new tlens.new trees.new order.now) }
+pub fn fail(s: &mut Store<'_>, order: &[u64]) -> u8
+    ensures done { Does failed
+        (lent_in s.old order.now) result
+        (lent_in s.new order.now) }
+    ensures lent { SameLent s.old s.new }
 {
     let a = editor_write::fail::fail(ed, plens, paths, tlens, trees, order);
     let code = a.code;

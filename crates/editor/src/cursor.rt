@@ -69,23 +69,13 @@ fn placed(path: &[u8], code: Code) -> Cursor
 }
 
 // Opens a cursor at a path, where a tree is then cached.
-pub fn cursor_at(
-    ed: Record,
-    plens: &mut [u64],
-    paths: &mut [u8],
-    tlens: &mut [u64],
-    trees: &mut [u8],
-    order: &[u64],
-    ids: &[u8],
-    ends: &[u32],
-    raws: &[u8],
-    path: &[u8],
-) -> Opened
-    ensures { Does (model.opened sha1 (table_of ids.now ends.now raws.now) path.now)
-        (lent ed plens.old paths.old tlens.old trees.old order.now) (code_number result.code)
-        (lent result.ed plens.new paths.new tlens.new trees.new order.now)
+pub fn cursor_at(s: &mut Store<'_>, order: &[u64], table: Table<'_>, path: &[u8]) -> Opened
+    ensures done { Does (model.opened sha1 (table_in table.entry) path.now)
+        (lent_in s.old order.now) (code_number result.code)
+        (lent_in s.new order.now)
         × (code_number result.code ≡ 0 → prefix_of result.cursor ≡ path.now) × ((code_number result.code ≡ 0 → ⊥) → prefix_of result.cursor ≡ [])
         × (code_number result.code ≡ 0 → result.cursor ≡ cursor_at path.now) × ((code_number result.code ≡ 0 → ⊥) → result.cursor ≡ cursor_at []) }
+    ensures lent { SameLent s.old s.new }
 {
     let edit = Edit::Upsert(EntryKind::Tree, editor_terms::id::NULL);
     let a = crate::edit::edit(

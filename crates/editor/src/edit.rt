@@ -19,25 +19,13 @@ use names::limits::{FULL, PATH_BYTES, SLOTS, TREE_BYTES};
 use store_slots::Record;
 
 // An edit at a path below a prefix, over slices as long as a store, which hold an editor.
-fn edit_held(
-    ed: Record,
-    plens: &mut [u64],
-    paths: &mut [u8],
-    tlens: &mut [u64],
-    trees: &mut [u8],
-    ids: &[u8],
-    ends: &[u32],
-    raws: &[u8],
-    prefix: &[u8],
-    path: &[u8],
-    edit: Edit,
-    opening: bool,
-) -> Answer
-    requires { Laid 20 ed plens.old paths.old tlens.old trees.old × (ed.«open» ≡ 0 → ed.hidden ≡ ed.free)
-        × (ed.«open» ≡ 0 → valid sha1 (editor_at (view_of 20 ed plens.old paths.old tlens.old trees.old)) ≡ true) }
-    ensures { (order : List ℕ) → EditedAs ed plens.old paths.old tlens.old trees.old order
-        (model.edited sha1 (table_of ids.now ends.now raws.now) (as_edit edit) opening prefix.now path.now
-        (editor_of 20 ed plens.old paths.old tlens.old trees.old order)) result plens.new paths.new tlens.new trees.new }
+fn edit_held(s: &mut Store<'_>, table: Table<'_>, prefix: &[u8], path: &[u8], edit: Edit, opening: bool) -> Result<(), Refusal>
+    requires { LaidIn 20 s.old × (s.old.ed.«open» ≡ 0 → s.old.ed.hidden ≡ s.old.ed.free)
+        × (s.old.ed.«open» ≡ 0 → valid sha1 (editor_at (view_in 20 s.old)) ≡ true) }
+    ensures done { (order : List ℕ) → EditedAs s.old.ed s.old.plens.now s.old.paths.now s.old.tlens.now s.old.trees.now order
+        (model.edited sha1 (table_in table.entry) (as_edit edit) opening prefix.now path.now
+        (editor_of 20 s.old.ed s.old.plens.now s.old.paths.now s.old.tlens.now s.old.trees.now order)) result s.new.plens.now s.new.paths.now s.new.tlens.now s.new.trees.now }
+    ensures lent { SameLent s.old s.new }
 {
     if ed.open != 0 {
         return Answer {
@@ -83,24 +71,11 @@ fn edit_held(
 }
 
 // An edit, or with `opening` the opening of a cursor, at a path below a prefix.
-pub fn edit(
-    ed: Record,
-    plens: &mut [u64],
-    paths: &mut [u8],
-    tlens: &mut [u64],
-    trees: &mut [u8],
-    order: &[u64],
-    ids: &[u8],
-    ends: &[u32],
-    raws: &[u8],
-    prefix: &[u8],
-    path: &[u8],
-    edit: Edit,
-    opening: bool,
-) -> Answer
-    ensures { Does (model.edited sha1 (table_of ids.now ends.now raws.now) (as_edit edit) opening prefix.now path.now)
-        (lent ed plens.old paths.old tlens.old trees.old order.now) (code_number result.code)
-        (lent result.ed plens.new paths.new tlens.new trees.new order.now) }
+pub fn edit(s: &mut Store<'_>, order: &[u64], table: Table<'_>, prefix: &[u8], path: &[u8], edit: Edit, opening: bool) -> Result<(), Refusal>
+    ensures done { Does (model.edited sha1 (table_in table.entry) (as_edit edit) opening prefix.now path.now)
+        (lent_in s.old order.now) (code_number result)
+        (lent_in s.new order.now) }
+    ensures lent { SameLent s.old s.new }
 {
     if !store_check::holds::holds(ed, plens, paths, tlens, trees, order) {
         return Answer {

@@ -14,18 +14,10 @@ use names::limits::{FULL, PATH_BYTES, SLOTS, TREE_BYTES};
 use store_slots::Record;
 
 // The entry at a path below a prefix, over slices as long as a store, which hold an editor.
-fn look_held(
-    ed: Record,
-    plens: &[u64],
-    paths: &[u8],
-    tlens: &[u64],
-    trees: &[u8],
-    prefix: &[u8],
-    path: &[u8],
-) -> Looked
-    requires { Laid 20 ed plens.now paths.now tlens.now trees.now × (ed.«open» ≡ 0 → ed.hidden ≡ ed.free) }
+fn look_held(v: View<'_>, prefix: &[u8], path: &[u8]) -> Looked
+    requires { LaidSeen 20 v × (v.ed.«open» ≡ 0 → v.ed.hidden ≡ v.ed.free) }
     ensures { (order : List ℕ) → looked_as (base path.now) result
-        ≡ model.looked prefix.now path.now (editor_of 20 ed plens.now paths.now tlens.now trees.now order) }
+        ≡ model.looked prefix.now path.now (editor_of 20 v.entry.ed v.entry.plens.now v.entry.paths.now v.entry.tlens.now v.entry.trees.now order) }
 {
     if ed.open != 0 {
         return Looked::Refused(Code::WriteOpen);
@@ -42,17 +34,8 @@ fn look_held(
 }
 
 // The entry at a path below a prefix.
-pub fn get(
-    ed: Record,
-    plens: &[u64],
-    paths: &[u8],
-    tlens: &[u64],
-    trees: &[u8],
-    order: &[u64],
-    prefix: &[u8],
-    path: &[u8],
-) -> Looked
-    ensures { Looks prefix.now path.now (lent ed plens.now paths.now tlens.now trees.now order.now) (looked_as (base path.now) result) }
+pub fn get(v: View<'_>, order: &[u64], prefix: &[u8], path: &[u8]) -> Looked
+    ensures { Looks prefix.now path.now (lent_seen v.entry order.now) (looked_as (base path.now) result) }
 {
     if !store_check::holds::holds(ed, plens, paths, tlens, trees, order) {
         return Looked::Refused(Code::StoreDamaged);

@@ -16,10 +16,10 @@ pub enum Ready {
 }
 
 // Whether a call at a path below a prefix is refused; else the slot of the prefix.
-pub fn slot_for(ed: Record, plens: &[u64], paths: &[u8], prefix: &[u8], path: &[u8]) -> Ready
-    requires { Sound plens.now paths.now ed.paths × (length plens.now ≡ 64) }
+pub fn slot_for(v: View<'_>, prefix: &[u8], path: &[u8]) -> Ready
+    requires { Sound v.plens.now v.paths.now v.ed.paths × (length v.plens.now ≡ 64) }
     ensures { (w : ℕ) (runs : List Bytes) → length runs ≡ 64
-        → ReadyIs w (digits 64 ed.hidden) (cut plens.now paths.now) runs prefix.now path.now result }
+        → ReadyIs w (digits 64 v.entry.ed.hidden) (cut v.entry.plens.now v.entry.paths.now) runs prefix.now path.now result }
 {
     match store_slots::find(ed, plens, paths, prefix) {
         Found::Nothing => Ready::Stale,

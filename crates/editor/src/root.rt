@@ -19,20 +19,13 @@ use names::tree::Checked;
 use store_slots::Record;
 
 // Caches a well-formed raw tree with so many entries and name bytes as the root, and nothing else, in slices as long as a store.
-fn root_only(
-    plens: &mut [u64],
-    paths: &mut [u8],
-    tlens: &mut [u64],
-    trees: &mut [u8],
-    raw: &[u8],
-    entries: usize,
-    name_bytes: usize,
-) -> Record
-    requires { (length plens.old ≡ 64) × (length paths.old ≡ 8192) × (length tlens.old ≡ 64) × (length trees.old ≡ tree_room 20)
+fn root_only(s: &mut Store<'_>, raw: &[u8], entries: usize, name_bytes: usize)
+    requires { (length s.old.plens.now ≡ 64) × (length s.old.paths.now ≡ 8192) × (length s.old.tlens.now ≡ 64) × (length s.old.trees.now ≡ tree_room 20)
         × (size_of (read_tree 20 raw.now) ≡ some (record { entries = entries; bytes = name_bytes })) × (entries ≤ 1024) × (name_bytes ≤ 16384) }
-    ensures { (t : Tree) → read_tree 20 raw.now ≡ some t → (order : List ℕ) → length order ≡ 64
-        → Holds sha1 result plens.new paths.new tlens.new trees.new order
-        × (editor_of 20 result plens.new paths.new tlens.new trees.new order ≡ root_only t) }
+    ensures done { (t : Tree) → read_tree 20 raw.now ≡ some t → (order : List ℕ) → length order ≡ 64
+        → Holds sha1 s.new.ed s.new.plens.now s.new.paths.now s.new.tlens.now s.new.trees.now order
+        × (editor_of 20 s.new.ed s.new.plens.now s.new.paths.now s.new.tlens.now s.new.trees.now order ≡ root_only t) }
+    ensures lent { SameLent s.old s.new }
 {
     let none = store_slots::drop_all(plens, paths, tlens, trees, WIDTH);
     let root = names::part::front(raw, 0);
@@ -43,18 +36,12 @@ fn root_only(
 }
 
 // A new root in slices that are long enough: 12, then 5.
-fn rooted(
-    ed: Record,
-    plens: &mut [u64],
-    paths: &mut [u8],
-    tlens: &mut [u64],
-    trees: &mut [u8],
-    raw: &[u8],
-) -> Answer
-    requires { (64 ≤ length plens.old) × (8192 ≤ length paths.old) × (64 ≤ length tlens.old) × (38912 ≤ length trees.old) }
-    ensures { (order : List ℕ) → 64 ≤ length order
-        → Roots raw.now (lent ed plens.old paths.old tlens.old trees.old order) (code_number result.code)
-        (lent result.ed plens.new paths.new tlens.new trees.new order) }
+fn rooted(s: &mut Store<'_>, raw: &[u8]) -> Result<(), Refusal>
+    requires { (64 ≤ length s.old.plens.now) × (8192 ≤ length s.old.paths.now) × (64 ≤ length s.old.tlens.now) × (38912 ≤ length s.old.trees.now) }
+    ensures done { (order : List ℕ) → 64 ≤ length order
+        → Roots raw.now (lent_in s.old order) (code_number result)
+        (lent_in s.new order) }
+    ensures lent { SameLent s.old s.new }
 {
     match names::tree::well_formed(raw, WIDTH) {
         Checked::Broken => Answer {
@@ -95,8 +82,8 @@ fn rooted(
 }
 
 // Whether the slices are as long as a store.
-fn long_enough(plens: &[u64], paths: &[u8], tlens: &[u64], trees: &[u8], order: &[u64]) -> bool
-    ensures { (ed : Record) → Decides (Long (lent ed plens.now paths.now tlens.now trees.now order.now)) result }
+fn long_enough(v: View<'_>, order: &[u64]) -> bool
+    ensures { (ed : Record) → Decides (Long (lent ed v.entry.plens.now v.entry.paths.now v.entry.tlens.now v.entry.trees.now order.now)) result }
 {
     if plens.len() < SLOTS {
         return false;
@@ -117,17 +104,10 @@ fn long_enough(plens: &[u64], paths: &[u8], tlens: &[u64], trees: &[u8], order: 
 }
 
 // Makes an editor with this root. Looks at no earlier content of the store.
-pub fn new(
-    ed: Record,
-    plens: &mut [u64],
-    paths: &mut [u8],
-    tlens: &mut [u64],
-    trees: &mut [u8],
-    order: &[u64],
-    raw: &[u8],
-) -> Answer
-    ensures { Makes raw.now (lent ed plens.old paths.old tlens.old trees.old order.now) (code_number result.code)
-        (lent result.ed plens.new paths.new tlens.new trees.new order.now) }
+pub fn new(s: &mut Store<'_>, order: &[u64], raw: &[u8]) -> Result<(), Refusal>
+    ensures done { Makes raw.now (lent_in s.old order.now) (code_number result)
+        (lent_in s.new order.now) }
+    ensures lent { SameLent s.old s.new }
 {
     if !long_enough(plens, paths, tlens, trees, order) {
         return Answer {
@@ -139,17 +119,10 @@ pub fn new(
 }
 
 // Sets the root, and drops every cached tree.
-pub fn set_root(
-    ed: Record,
-    plens: &mut [u64],
-    paths: &mut [u8],
-    tlens: &mut [u64],
-    trees: &mut [u8],
-    order: &[u64],
-    raw: &[u8],
-) -> Answer
-    ensures { Does (set_root sha1 raw.now) (lent ed plens.old paths.old tlens.old trees.old order.now) (code_number result.code)
-        (lent result.ed plens.new paths.new tlens.new trees.new order.now) }
+pub fn set_root(s: &mut Store<'_>, order: &[u64], raw: &[u8]) -> Result<(), Refusal>
+    ensures done { Does (set_root sha1 raw.now) (lent_in s.old order.now) (code_number result)
+        (lent_in s.new order.now) }
+    ensures lent { SameLent s.old s.new }
 {
     if !store_check::holds::holds(ed, plens, paths, tlens, trees, order) {
         return Answer {

@@ -15,16 +15,11 @@ use names::limits::{PATH_BYTES, SLOTS, TREE_BYTES, WIDTH};
 use store_slots::Record;
 
 // The start tree was requested: the write is over. From the root it alone stays cached; from a cursor it goes back to the others.
-fn close(
-    ed: Record,
-    plens: &mut [u64],
-    paths: &mut [u8],
-    tlens: &mut [u64],
-    trees: &mut [u8],
-) -> Record
-    requires { ((order : List ℕ) × HoldsExactly (lent ed plens.old paths.old tlens.old trees.old order)) × (ed.«open» ≡ 0 → ⊥) × (ed.aside ≡ 0) }
-    ensures { (order : List ℕ) (id : Bytes) → HoldsExactly (lent ed plens.old paths.old tlens.old trees.old order) → length id ≡ 20
-        → Made (answered sha1 id) (lent ed plens.old paths.old tlens.old trees.old order) (lent result plens.new paths.new tlens.new trees.new order) }
+fn close(s: &mut Store<'_>)
+    requires { ((order : List ℕ) × HoldsExactly (lent_in s.old order)) × (s.old.ed.«open» ≡ 0 → ⊥) × (s.old.ed.aside ≡ 0) }
+    ensures done { (order : List ℕ) (id : Bytes) → HoldsExactly (lent_in s.old order) → length id ≡ 20
+        → Made (answered sha1 id) (lent_in s.old order) (lent_in s.new order) }
+    ensures lent { SameLent s.old s.new }
 {
     if ed.open == 1 {
         let slot = ed.asked;
@@ -34,18 +29,11 @@ fn close(
 }
 
 // Another tree was requested: its entry in its parent has the id now, and the write goes on to the next request.
-fn go_on(
-    ed: Record,
-    plens: &mut [u64],
-    paths: &mut [u8],
-    tlens: &mut [u64],
-    trees: &mut [u8],
-    order: &mut [u64],
-    id: Id,
-) -> Record
-    requires { HoldsExactly (lent ed plens.old paths.old tlens.old trees.old order.old) × (ed.«open» ≡ 0 → ⊥) × (ed.aside ≡ 0 → ⊥) }
-    ensures { Made (answered sha1 (id_bytes id)) (lent ed plens.old paths.old tlens.old trees.old order.old)
-        (lent result plens.new paths.new tlens.new trees.new order.new) }
+fn go_on(s: &mut Store<'_>, order: &mut [u64], id: Id)
+    requires { HoldsExactly (lent_in s.old order.old) × (s.old.ed.«open» ≡ 0 → ⊥) × (s.old.ed.aside ≡ 0 → ⊥) }
+    ensures done { Made (answered sha1 (id_bytes id)) (lent_in s.old order.old)
+        (lent_in s.new order.new) }
+    ensures lent { SameLent s.old s.new }
 {
     let b = editor_terms::id::bytes(id);
     let slot = ed.asked;
@@ -56,18 +44,11 @@ fn go_on(
 }
 
 // An answer over slices that hold an editor with an open write.
-fn answer_held(
-    ed: Record,
-    plens: &mut [u64],
-    paths: &mut [u8],
-    tlens: &mut [u64],
-    trees: &mut [u8],
-    order: &mut [u64],
-    id: Id,
-) -> Record
-    requires { HoldsExactly (lent ed plens.old paths.old tlens.old trees.old order.old) × (ed.«open» ≡ 0 → ⊥) }
-    ensures { Made (answered sha1 (id_bytes id)) (lent ed plens.old paths.old tlens.old trees.old order.old)
-        (lent result plens.new paths.new tlens.new trees.new order.new) }
+fn answer_held(s: &mut Store<'_>, order: &mut [u64], id: Id)
+    requires { HoldsExactly (lent_in s.old order.old) × (s.old.ed.«open» ≡ 0 → ⊥) }
+    ensures done { Made (answered sha1 (id_bytes id)) (lent_in s.old order.old)
+        (lent_in s.new order.new) }
+    ensures lent { SameLent s.old s.new }
 {
     if ed.aside == 0 {
         return close(ed, plens, paths, tlens, trees);
@@ -76,18 +57,11 @@ fn answer_held(
 }
 
 // An answer over a store that holds an editor: 10 where no write is open, else it is made in the fronts of the slices.
-pub(crate) fn answer_accepted(
-    ed: Record,
-    plens: &mut [u64],
-    paths: &mut [u8],
-    tlens: &mut [u64],
-    trees: &mut [u8],
-    order: &mut [u64],
-    id: Id,
-) -> Answer
-    requires { Good (lent ed plens.old paths.old tlens.old trees.old order.old) }
-    ensures { Does (answered sha1 (id_bytes id)) (lent ed plens.old paths.old tlens.old trees.old order.old) (code_number result.code)
-        (lent result.ed plens.new paths.new tlens.new trees.new order.new) }
+pub(crate) fn answer_accepted(s: &mut Store<'_>, order: &mut [u64], id: Id) -> Result<(), Refusal>
+    requires { Good (lent_in s.old order.old) }
+    ensures done { Does (answered sha1 (id_bytes id)) (lent_in s.old order.old) (code_number result)
+        (lent_in s.new order.new) }
+    ensures lent { SameLent s.old s.new }
 {
     if ed.open == 0 {
         return Answer {
@@ -111,17 +85,10 @@ pub(crate) fn answer_accepted(
 }
 
 // Answers the open request with the id of the tree that was requested.
-pub fn answer(
-    ed: Record,
-    plens: &mut [u64],
-    paths: &mut [u8],
-    tlens: &mut [u64],
-    trees: &mut [u8],
-    order: &mut [u64],
-    id: Id,
-) -> Answer
-    ensures { Does (answered sha1 (id_bytes id)) (lent ed plens.old paths.old tlens.old trees.old order.old) (code_number result.code)
-        (lent result.ed plens.new paths.new tlens.new trees.new order.new) }
+pub fn answer(s: &mut Store<'_>, order: &mut [u64], id: Id) -> Result<(), Refusal>
+    ensures done { Does (answered sha1 (id_bytes id)) (lent_in s.old order.old) (code_number result)
+        (lent_in s.new order.new) }
+    ensures lent { SameLent s.old s.new }
 {
     if !store_check::holds::holds(ed, plens, paths, tlens, trees, order) {
         return Answer {

@@ -13,17 +13,11 @@ use names::limits::{PATH_BYTES, SLOTS, TREE_BYTES, WIDTH};
 use store_slots::Record;
 
 // A failure over slices that hold an editor with an open write.
-fn fail_held(
-    ed: Record,
-    plens: &mut [u64],
-    paths: &mut [u8],
-    tlens: &mut [u64],
-    trees: &mut [u8],
-    order: &[u64],
-) -> Record
-    requires { Holds sha1 ed plens.old paths.old tlens.old trees.old order.now × (ed.«open» ≡ 0 → ⊥) }
-    ensures { Made failed (lent ed plens.old paths.old tlens.old trees.old order.now)
-        (lent result plens.new paths.new tlens.new trees.new order.now) }
+fn fail_held(s: &mut Store<'_>, order: &[u64])
+    requires { Holds sha1 s.old.ed s.old.plens.now s.old.paths.now s.old.tlens.now s.old.trees.now order.now × (s.old.ed.«open» ≡ 0 → ⊥) }
+    ensures done { Made failed (lent_in s.old order.now)
+        (lent_in s.new order.now) }
+    ensures lent { SameLent s.old s.new }
 {
     let start = store_slots::start(ed, order);
     let one = store_taken::drop_others(ed, plens, paths, tlens, trees, WIDTH, start);
@@ -31,16 +25,10 @@ fn fail_held(
 }
 
 // Fails the open request: the start tree goes back as it stands, the other taken trees are lost.
-pub fn fail(
-    ed: Record,
-    plens: &mut [u64],
-    paths: &mut [u8],
-    tlens: &mut [u64],
-    trees: &mut [u8],
-    order: &[u64],
-) -> Answer
-    ensures { Does failed (lent ed plens.old paths.old tlens.old trees.old order.now) (code_number result.code)
-        (lent result.ed plens.new paths.new tlens.new trees.new order.now) }
+pub fn fail(s: &mut Store<'_>, order: &[u64]) -> Result<(), Refusal>
+    ensures done { Does failed (lent_in s.old order.now) (code_number result)
+        (lent_in s.new order.now) }
+    ensures lent { SameLent s.old s.new }
 {
     if !store_check::holds::holds(ed, plens, paths, tlens, trees, order) {
         return Answer {

@@ -20,19 +20,11 @@ pub struct AnsweredAndRead {
 }
 
 // Answers the open request with the id of the tree that was requested, and reads the request that is open then.
-pub fn answer_and_request(
-    ed: Record,
-    plens: &mut [u64],
-    paths: &mut [u8],
-    tlens: &mut [u64],
-    trees: &mut [u8],
-    order: &mut [u64],
-    id: Id,
-    out: &mut [u8],
-) -> AnsweredAndRead
-    ensures { Does (answered sha1 (id_bytes id)) (lent ed plens.old paths.old tlens.old trees.old order.old) (code_number result.code)
-        (lent result.ed plens.new paths.new tlens.new trees.new order.new)
-        × Requests (lent result.ed plens.new paths.new tlens.new trees.new order.new) result.next.code result.next.len result.next.at out.old out.new }
+pub fn answer_and_request(s: &mut Store<'_>, order: &mut [u64], id: Id, out: &mut [u8]) -> AnsweredAndRead
+    ensures done { Does (answered sha1 (id_bytes id)) (lent_in s.old order.old) (code_number result.code)
+        (lent_in s.new order.new)
+        × Requests (lent_in s.new order.new) result.next.code result.next.len result.next.at out.old out.new }
+    ensures lent { SameLent s.old s.new }
 {
     if !store_check::holds::holds(ed, plens, paths, tlens, trees, order) {
         return AnsweredAndRead {

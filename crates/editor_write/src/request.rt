@@ -36,16 +36,9 @@ pub(crate) fn refused(code: Code) -> Asked
 }
 
 // The request over slices that hold an editor with an open write.
-fn request_held(
-    ed: Record,
-    plens: &[u64],
-    paths: &[u8],
-    tlens: &[u64],
-    trees: &[u8],
-    out: &mut [u8],
-) -> Asked
-    requires { Readable 20 ed tlens.now trees.now ed.asked × Sound plens.now paths.now ed.paths × (ed.asked < length plens.now) }
-    ensures { (E : Model) (h : Held) → requested E ≡ some h → h ≡ held_at 20 plens.now paths.now tlens.now trees.now ed.asked → length h.path ≤ 1024
+fn request_held(v: View<'_>, out: &mut [u8]) -> Asked
+    requires { Readable 20 v.ed v.tlens.now v.trees.now v.ed.asked × Sound v.plens.now v.paths.now v.ed.paths × (v.ed.asked < length v.plens.now) }
+    ensures { (E : Model) (h : Held) → requested E ≡ some h → h ≡ held_at 20 v.entry.plens.now v.entry.paths.now v.entry.tlens.now v.entry.trees.now v.entry.ed.asked → length h.path ≤ 1024
         → Shows (λ m. show m E) result.code result.len out.old out.new × (result.at ≡ cursor_at (place_in (show (length out.old) E) (requested E))) }
 {
     let slot = ed.asked;
@@ -63,17 +56,10 @@ fn request_held(
 }
 
 // The request over a store that holds an editor: 10 where no write is open. Its order of the taken trees is not looked at.
-pub(crate) fn request_accepted(
-    ed: Record,
-    plens: &[u64],
-    paths: &[u8],
-    tlens: &[u64],
-    trees: &[u8],
-    out: &mut [u8],
-) -> Asked
-    requires { (order : List ℕ) × Good (lent ed plens.now paths.now tlens.now trees.now order) }
-    ensures { (order : List ℕ) → Good (lent ed plens.now paths.now tlens.now trees.now order)
-        → Requests (lent ed plens.now paths.now tlens.now trees.now order) result.code result.len result.at out.old out.new }
+pub(crate) fn request_accepted(v: View<'_>, out: &mut [u8]) -> Asked
+    requires { (order : List ℕ) × Good (lent_seen v order) }
+    ensures { (order : List ℕ) → Good (lent_seen v.entry order)
+        → Requests (lent_seen v.entry order) result.code result.len result.at out.old out.new }
 {
     if ed.open == 0 {
         return refused(Code::NoWriteOpen);
@@ -89,16 +75,8 @@ pub(crate) fn request_accepted(
 }
 
 // Writes the raw tree that is requested to the front of the output.
-pub fn request(
-    ed: Record,
-    plens: &[u64],
-    paths: &[u8],
-    tlens: &[u64],
-    trees: &[u8],
-    order: &[u64],
-    out: &mut [u8],
-) -> Asked
-    ensures { Requests (lent ed plens.now paths.now tlens.now trees.now order.now) result.code result.len result.at out.old out.new }
+pub fn request(v: View<'_>, order: &[u64], out: &mut [u8]) -> Asked
+    ensures { Requests (lent_seen v.entry order.now) result.code result.len result.at out.old out.new }
 {
     if !store_check::holds::holds(ed, plens, paths, tlens, trees, order) {
         return refused(Code::StoreDamaged);
