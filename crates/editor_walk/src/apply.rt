@@ -18,6 +18,8 @@ ghost use Rattle.editor_walk.specs.Steps.{PutFits, LandFits, Descended, down_as,
 use crate::land::Landing;
 use editor_terms::code::Code;
 use editor_terms::edit::{Edit, Seen, Turn};
+use names::limits::WIDTH;
+use names::write::Entry;
 use store_slots::Record;
 
 // What a step comes to: its number, the record, and whether and in which slot the walk goes on.
@@ -53,13 +55,16 @@ fn apply(
         (changed turn name.now (tree_of 20 tlens.old trees.old slot)) result tlens.new trees.new }
 {
     match turn {
-        Turn::Stop(_) => ed,
-        Turn::Cut => store_entries::remove(ed, plens, paths, tlens, trees, 20, slot, name),
+        Turn::Cut => store_entries::remove(ed, plens, paths, tlens, trees, WIDTH, slot, name),
         Turn::Put(kind, id) => {
-            let b = editor_terms::id::bytes(id);
-            store_entries::set(ed, plens, paths, tlens, trees, 20, slot, kind, &b, name)
+            let entry = Entry {
+                kind,
+                name,
+                id: &id.bytes,
+            };
+            store_entries::set(ed, plens, paths, tlens, trees, WIDTH, slot, entry)
         }
-        Turn::Down(_) => ed,
+        Turn::Stop(_) | Turn::Down(_) => ed,
     }
 }
 
@@ -70,13 +75,12 @@ fn descend(
     paths: &mut [u8],
     tlens: &mut [u64],
     trees: &mut [u8],
-    raws: &[u8],
     below: &[u8],
-    landing: Landing,
+    landing: Landing<'_>,
 ) -> Walked
     requires { Laid 20 ed plens.old paths.old tlens.old trees.old × (ed.hidden ≡ ed.free)
-        × LandFits ed plens.old paths.old (view_of 20 ed plens.old paths.old tlens.old trees.old) raws.now below.now landing }
-    ensures { Descended ed raws.now below.now (view_of 20 ed plens.old paths.old tlens.old trees.old) landing result
+        × LandFits ed plens.old paths.old (view_of 20 ed plens.old paths.old tlens.old trees.old) below.now landing }
+    ensures { Descended ed below.now (view_of 20 ed plens.old paths.old tlens.old trees.old) landing.entry result
         plens.new paths.new tlens.new trees.new }
 {
     match landing {
@@ -93,39 +97,32 @@ fn descend(
             ed,
         },
         Landing::Fresh => {
-            let t = store_slots::add_empty(ed, plens, paths, tlens, trees, 20, below);
-            let e = t.editor;
-            let k = t.slot;
+            let t = store_slots::add_empty(ed, plens, paths, tlens, trees, WIDTH, below);
             Walked {
                 going: true,
                 code: Code::Done,
-                slot: k,
-                ed: e,
+                slot: t.slot,
+                ed: t.editor,
             }
         }
         Landing::Load(raw) => {
-            let from = raw.from;
-            let n = raw.to - from;
-            let bytes = names::part::between(raws, from, n);
             let t = store_trees::load::load(
                 ed,
                 plens,
                 paths,
                 tlens,
                 trees,
-                20,
+                WIDTH,
                 below,
-                bytes,
-                raw.entries,
-                raw.names,
+                raw.bytes,
+                raw.size.entries,
+                raw.size.name_bytes,
             );
-            let e = t.editor;
-            let k = t.slot;
             Walked {
                 going: true,
                 code: Code::Done,
-                slot: k,
-                ed: e,
+                slot: t.slot,
+                ed: t.editor,
             }
         }
     }
@@ -150,25 +147,20 @@ fn go_down(
     ensures { SteppedAs ed (down_as (table_of ids.now ends.now raws.now) (as_edit edit) below.now (wanted_by turn)
         (view_of 20 ed plens.old paths.old tlens.old trees.old)) below.now result plens.new paths.new tlens.new trees.new }
 {
-    let wanted = editor_terms::edit::wanted_by(turn);
-    let leaf = editor_terms::edit::is_leaf_removal(edit);
+    let wanted = turn.wanted();
+    let leaf = edit.is_leaf_removal();
     let landing = crate::land::land(ed, plens, paths, ids, ends, raws, below, wanted, leaf);
-    descend(ed, plens, paths, tlens, trees, raws, below, landing)
+    descend(ed, plens, paths, tlens, trees, below, landing)
 }
 
 // The entry of a name in the tree at hand, where the edit's turn depends on it: an upsert's last does not.
-fn seen_for(tree: &[u8], name: &[u8], edit: Edit, last: bool) -> Seen
+fn seen_for(tree: &[u8], name: &[u8], edit: Edit, last: bool) -> Option<Seen>
     requires { Run 20 tree.now × (rising key (unpack 20 tree.now) ≡ true) }
     ensures { looks edit «last» ≡ true → seen_as result ≡ parts_of (entry_of name.now (unpack 20 tree.now)) }
 {
     match edit {
-        Edit::Remove(_) => crate::seen::seen_in(tree, name, false),
-        Edit::Upsert(_, _) => {
-            if last {
-                return Seen::Nothing;
-            }
-            crate::seen::seen_in(tree, name, false)
-        }
+        Edit::Upsert(_, _) if last => None,
+        _ => crate::seen::seen_in(tree, name, false),
     }
 }
 
@@ -209,13 +201,12 @@ fn step(
         edit,
         last,
     );
-    let turn = editor_terms::edit::turn_of(edit, last, seen);
+    let turn = edit.turn(last, seen);
     let e = apply(ed, plens, paths, tlens, trees, name, slot, turn);
-    if !editor_terms::edit::goes_down(turn, last, opening) {
-        let code = editor_terms::edit::end_code(turn);
+    if !turn.goes_down(last, opening) {
         return Walked {
             going: false,
-            code,
+            code: turn.end_code(),
             slot: 0,
             ed: e,
         };
@@ -229,7 +220,7 @@ fn step(
 fn is_over(going: bool, last: bool) -> bool
     ensures { result ≡ (not going || last) }
 {
-    if going { last } else { true }
+    !going || last
 }
 
 // The walk of an edit whose steps each fit, from the tree in a slot; `full` is that tree's path with the path.
@@ -272,15 +263,15 @@ pub fn walk(
         let s = step(
             e, plens, paths, tlens, trees, ids, ends, raws, below, name, edit, last, opening, at,
         );
-        let code = s.code;
-        let f = s.ed;
         if is_over(s.going, last) {
-            return Answer { code, ed: f };
+            return Answer {
+                code: s.code,
+                ed: s.ed,
+            };
         }
-        e = f;
+        e = s.ed;
         at = s.slot;
-        let rest = names::path::tail(p, k);
-        p = rest;
+        p = names::path::tail(p, k);
     }
 }
 
@@ -311,9 +302,8 @@ pub fn settle(
     let m = crate::measure::measure(
         ed, plens, paths, tlens, trees, ids, ends, raws, full, path, edit, opening, slot,
     );
-    let code = m.code;
     if !m.kept {
-        return Answer { code, ed };
+        return Answer { code: m.code, ed };
     }
     walk(
         ed, plens, paths, tlens, trees, ids, ends, raws, full, path, edit, opening, slot,
