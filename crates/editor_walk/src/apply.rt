@@ -39,20 +39,13 @@ pub struct Answer {
 }
 
 // What a turn at a name changes in the tree in a slot.
-fn apply(
-    ed: Record,
-    plens: &[u64],
-    paths: &[u8],
-    tlens: &mut [u64],
-    trees: &mut [u8],
-    name: &[u8],
-    slot: usize,
-    turn: Turn,
-) -> Record
-    requires { Laid 20 ed plens.now paths.now tlens.old trees.old × Used ed slot × (good_name name.now ≡ true)
-        × PutFits turn (path_of plens.now paths.now slot) name.now (tree_of 20 tlens.old trees.old slot) (view_of 20 ed plens.now paths.now tlens.old trees.old) }
-    ensures { Edited 20 ed plens.now paths.now tlens.old trees.old slot
-        (changed turn name.now (tree_of 20 tlens.old trees.old slot)) result tlens.new trees.new }
+fn apply(s: &mut Store<'_>, name: &[u8], slot: usize, turn: Turn)
+    requires { LaidIn 20 s.old × Used s.old.ed slot × (good_name name.now ≡ true)
+        × PutFits turn (path_in_slot s.old slot) name.now (tree_in_slot 20 s.old slot) (view_in 20 s.old) }
+    ensures done { Edited 20 s.old.ed s.old.plens.now s.old.paths.now s.old.tlens.now s.old.trees.now slot
+        (changed turn name.now (tree_in_slot 20 s.old slot)) s.new.ed s.new.tlens.now s.new.trees.now }
+    ensures lent { SameLent s.old s.new }
+    ensures keys { SameKeys s.old s.new }
 {
     match turn {
         Turn::Cut => store_entries::remove(ed, plens, paths, tlens, trees, WIDTH, slot, name),
@@ -69,19 +62,12 @@ fn apply(
 }
 
 // Goes down to the path below: what is to be cached there is cached.
-fn descend(
-    ed: Record,
-    plens: &mut [u64],
-    paths: &mut [u8],
-    tlens: &mut [u64],
-    trees: &mut [u8],
-    below: &[u8],
-    landing: Landing<'_>,
-) -> Walked
-    requires { Laid 20 ed plens.old paths.old tlens.old trees.old × (ed.hidden ≡ ed.free)
-        × LandFits ed plens.old paths.old (view_of 20 ed plens.old paths.old tlens.old trees.old) below.now landing }
-    ensures { Descended ed below.now (view_of 20 ed plens.old paths.old tlens.old trees.old) landing.entry result
-        plens.new paths.new tlens.new trees.new }
+fn descend(s: &mut Store<'_>, below: &[u8], landing: Landing<'_>) -> Result<Option<usize>, Refusal>
+    requires { LaidIn 20 s.old × (s.old.ed.hidden ≡ s.old.ed.free)
+        × LandFits s.old.ed s.old.plens.now s.old.paths.now (view_in 20 s.old) below.now landing }
+    ensures done { Descended s.old.ed below.now (view_in 20 s.old) landing.entry result
+        s.new.plens.now s.new.paths.now s.new.tlens.now s.new.trees.now }
+    ensures lent { SameLent s.old s.new }
 {
     match landing {
         Landing::There(slot) => Walked {
@@ -129,23 +115,12 @@ fn descend(
 }
 
 // The step down after a turn.
-fn go_down(
-    ed: Record,
-    plens: &mut [u64],
-    paths: &mut [u8],
-    tlens: &mut [u64],
-    trees: &mut [u8],
-    ids: &[u8],
-    ends: &[u32],
-    raws: &[u8],
-    below: &[u8],
-    turn: Turn,
-    edit: Edit,
-) -> Walked
-    requires { Laid 20 ed plens.old paths.old tlens.old trees.old × (ed.hidden ≡ ed.free) × (good_table 20 (table_of ids.now ends.now raws.now) ≡ true)
-        × Fitting (down_as (table_of ids.now ends.now raws.now) (as_edit edit) below.now (wanted_by turn) (view_of 20 ed plens.old paths.old tlens.old trees.old)) }
-    ensures { SteppedAs ed (down_as (table_of ids.now ends.now raws.now) (as_edit edit) below.now (wanted_by turn)
-        (view_of 20 ed plens.old paths.old tlens.old trees.old)) below.now result plens.new paths.new tlens.new trees.new }
+fn go_down(s: &mut Store<'_>, table: Objects<'_>, below: &[u8], turn: Turn, edit: Edit) -> Result<Option<usize>, Refusal>
+    requires { LaidIn 20 s.old × (s.old.ed.hidden ≡ s.old.ed.free) × (good_table 20 (objects_in table) ≡ true)
+        × Fitting (down_as (objects_in table) (as_edit edit) below.now (wanted_by turn) (view_in 20 s.old)) }
+    ensures done { SteppedAs s.old.ed (down_as (objects_in table.entry) (as_edit edit) below.now (wanted_by turn)
+        (view_in 20 s.old)) below.now result s.new.plens.now s.new.paths.now s.new.tlens.now s.new.trees.now }
+    ensures lent { SameLent s.old s.new }
 {
     let wanted = turn.wanted();
     let leaf = edit.is_leaf_removal();
@@ -165,27 +140,13 @@ fn seen_for(tree: &[u8], name: &[u8], edit: Edit, last: bool) -> Option<Seen>
 }
 
 // One step: the edit at the component `name` of the tree in a slot, with the path `below` of the tree below it.
-fn step(
-    ed: Record,
-    plens: &mut [u64],
-    paths: &mut [u8],
-    tlens: &mut [u64],
-    trees: &mut [u8],
-    ids: &[u8],
-    ends: &[u32],
-    raws: &[u8],
-    below: &[u8],
-    name: &[u8],
-    edit: Edit,
-    last: bool,
-    opening: bool,
-    slot: usize,
-) -> Walked
-    requires { Laid 20 ed plens.old paths.old tlens.old trees.old × (ed.hidden ≡ ed.free) × Used ed slot × (good_table 20 (table_of ids.now ends.now raws.now) ≡ true)
+fn step(s: &mut Store<'_>, table: Objects<'_>, below: &[u8], name: &[u8], edit: Edit, last: bool, opening: bool, slot: usize) -> Result<Option<usize>, Refusal>
+    requires { LaidIn 20 s.old × (s.old.ed.hidden ≡ s.old.ed.free) × Used s.old.ed slot × (good_table 20 (objects_in table) ≡ true)
         × ((length name.now ≡ 0 → ⊥) → good_name name.now ≡ true)
-        × Fitting (step_as (table_of ids.now ends.now raws.now) (as_edit edit) opening «last» (path_of plens.old paths.old slot) below.now name.now (view_of 20 ed plens.old paths.old tlens.old trees.old)) }
-    ensures { SteppedAs ed (step_as (table_of ids.now ends.now raws.now) (as_edit edit) opening «last» (path_of plens.old paths.old slot) below.now name.now
-        (view_of 20 ed plens.old paths.old tlens.old trees.old)) below.now result plens.new paths.new tlens.new trees.new }
+        × Fitting (step_as (objects_in table) (as_edit edit) opening «last» (path_in_slot s.old slot) below.now name.now (view_in 20 s.old)) }
+    ensures done { SteppedAs s.old.ed (step_as (objects_in table.entry) (as_edit edit) opening «last» (path_in_slot s.old slot) below.now name.now
+        (view_in 20 s.old)) below.now result s.new.plens.now s.new.paths.now s.new.tlens.now s.new.trees.now }
+    ensures lent { SameLent s.old s.new }
 {
     if name.len() == 0 {
         return Walked {
@@ -224,26 +185,13 @@ fn is_over(going: bool, last: bool) -> bool
 }
 
 // The walk of an edit whose steps each fit, from the tree in a slot; `full` is that tree's path with the path.
-pub fn walk(
-    ed: Record,
-    plens: &mut [u64],
-    paths: &mut [u8],
-    tlens: &mut [u64],
-    trees: &mut [u8],
-    ids: &[u8],
-    ends: &[u32],
-    raws: &[u8],
-    full: &[u8],
-    path: &[u8],
-    edit: Edit,
-    opening: bool,
-    slot: usize,
-) -> Answer
-    requires { Laid 20 ed plens.old paths.old tlens.old trees.old × (ed.hidden ≡ ed.free) × Used ed slot × (good_table 20 (table_of ids.now ends.now raws.now) ≡ true)
-        × (full.now ≡ fullPath (path_of plens.old paths.old slot) path.now) × (refused (path_of plens.old paths.old slot) path.now ≡ false)
-        × ((walked sha1 (table_of ids.now ends.now raws.now) (as_edit edit) opening (components path.now) (path_of plens.old paths.old slot) (view_of 20 ed plens.old paths.old tlens.old trees.old)).kept ≡ true) }
-    ensures { WalkedAs ed (walked sha1 (table_of ids.now ends.now raws.now) (as_edit edit) opening (components path.now) (path_of plens.old paths.old slot)
-        (view_of 20 ed plens.old paths.old tlens.old trees.old)) result plens.new paths.new tlens.new trees.new }
+pub fn walk(s: &mut Store<'_>, table: Objects<'_>, full: &[u8], path: &[u8], edit: Edit, opening: bool, slot: usize) -> Result<(), Refusal>
+    requires { LaidIn 20 s.old × (s.old.ed.hidden ≡ s.old.ed.free) × Used s.old.ed slot × (good_table 20 (objects_in table) ≡ true)
+        × (full.now ≡ fullPath (path_in_slot s.old slot) path.now) × (refused (path_in_slot s.old slot) path.now ≡ false)
+        × ((walked sha1 (objects_in table) (as_edit edit) opening (components path.now) (path_in_slot s.old slot) (view_in 20 s.old)).kept ≡ true) }
+    ensures done { WalkedAs s.old.ed (walked sha1 (objects_in table.entry) (as_edit edit) opening (components path.now) (path_in_slot s.old slot)
+        (view_in 20 s.old)) result s.new.plens.now s.new.paths.now s.new.tlens.now s.new.trees.now }
+    ensures lent { SameLent s.old s.new }
 {
     if path.len() == 0 {
         return Answer {
@@ -276,28 +224,15 @@ pub fn walk(
 }
 
 // Both passes: the walk of an edit, if each of its steps keeps the limits; else nothing is changed.
-pub fn settle(
-    ed: Record,
-    plens: &mut [u64],
-    paths: &mut [u8],
-    tlens: &mut [u64],
-    trees: &mut [u8],
-    ids: &[u8],
-    ends: &[u32],
-    raws: &[u8],
-    full: &[u8],
-    path: &[u8],
-    edit: Edit,
-    opening: bool,
-    slot: usize,
-) -> Answer
-    requires { Laid 20 ed plens.old paths.old tlens.old trees.old × (ed.hidden ≡ ed.free) × Used ed slot × (good_table 20 (table_of ids.now ends.now raws.now) ≡ true)
-        × (full.now ≡ fullPath (path_of plens.old paths.old slot) path.now) × (refused (path_of plens.old paths.old slot) path.now ≡ false)
-        × (valid sha1 (editor_at (view_of 20 ed plens.old paths.old tlens.old trees.old)) ≡ true) }
-    ensures { SettledAs ed plens.old paths.old tlens.old trees.old
-        (settled (editor_at (view_of 20 ed plens.old paths.old tlens.old trees.old))
-        (walked sha1 (table_of ids.now ends.now raws.now) (as_edit edit) opening (components path.now) (path_of plens.old paths.old slot)
-        (view_of 20 ed plens.old paths.old tlens.old trees.old))) result plens.new paths.new tlens.new trees.new }
+pub fn settle(s: &mut Store<'_>, table: Objects<'_>, full: &[u8], path: &[u8], edit: Edit, opening: bool, slot: usize) -> Result<(), Refusal>
+    requires { LaidIn 20 s.old × (s.old.ed.hidden ≡ s.old.ed.free) × Used s.old.ed slot × (good_table 20 (objects_in table) ≡ true)
+        × (full.now ≡ fullPath (path_in_slot s.old slot) path.now) × (refused (path_in_slot s.old slot) path.now ≡ false)
+        × (valid sha1 (editor_at (view_in 20 s.old)) ≡ true) }
+    ensures done { SettledAs s.old.ed s.old.plens.now s.old.paths.now s.old.tlens.now s.old.trees.now
+        (settled (editor_at (view_in 20 s.old))
+        (walked sha1 (objects_in table.entry) (as_edit edit) opening (components path.now) (path_in_slot s.old slot)
+        (view_in 20 s.old))) result s.new.plens.now s.new.paths.now s.new.tlens.now s.new.trees.now }
+    ensures lent { SameLent s.old s.new }
 {
     let m = crate::measure::measure(
         ed, plens, paths, tlens, trees, ids, ends, raws, full, path, edit, opening, slot,

@@ -72,20 +72,10 @@ fn land_new<'a>(
 }
 
 // What going down to the path `below` finds.
-pub fn land<'a>(
-    ed: Record,
-    plens: &[u64],
-    paths: &[u8],
-    ids: &[u8],
-    ends: &[u32],
-    raws: &'a [u8],
-    below: &[u8],
-    wanted: Option<Id>,
-    leaf: bool,
-) -> Landing<'a>
-    requires { Sound plens.now paths.now ed.paths × (length plens.now ≡ 64) × (good_table 20 (table_of ids.now ends.now raws.now) ≡ true) }
-    ensures { LandsAs (planned sha1 (table_of ids.now ends.now raws.now) «leaf» (wanted_as wanted))
-        (digits 64 ed.hidden) (cut plens.now paths.now) below.now result }
+pub fn land<'a>(v: View<'_>, table: Objects<'_>, below: &[u8], wanted: Option<Id>, leaf: bool) -> Landing<'a>
+    requires { Sound v.plens.now v.paths.now v.ed.paths × (length v.plens.now ≡ 64) × (good_table 20 (objects_in table) ≡ true) }
+    ensures { LandsAs (planned sha1 (objects_in table.entry) «leaf» (wanted_as wanted))
+        (digits 64 v.entry.ed.hidden) (cut v.entry.plens.now v.entry.paths.now) below.now result }
 {
     match store_slots::find(ed, plens, paths, below) {
         Some(slot) => Landing::There(slot),

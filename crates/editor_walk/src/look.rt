@@ -15,17 +15,9 @@ use std::ops::ControlFlow;
 use store_slots::Record;
 
 // A lookup at one component of the path, `name`: it is over, or goes on in a slot; `below` is the path of the tree below it.
-fn look_in(
-    ed: Record,
-    plens: &[u64],
-    paths: &[u8],
-    tree: &[u8],
-    below: &[u8],
-    name: &[u8],
-    last: bool,
-) -> ControlFlow<Option<Seen>, usize>
-    requires { Sound plens.now paths.now ed.paths × (length plens.now ≡ 64) × Run 20 tree.now × (well_formed 20 (unpack 20 tree.now) ≡ true) × (has 47 name.now ≡ false) }
-    ensures { LookStepIs (digits 64 ed.hidden) (cut plens.now paths.now) (unpack 20 tree.now) below.now name.now «last» result }
+fn look_in(v: View<'_>, tree: &[u8], below: &[u8], name: &[u8], last: bool) -> ControlFlow<Option<Seen>, usize>
+    requires { Sound v.plens.now v.paths.now v.ed.paths × (length v.plens.now ≡ 64) × Run 20 tree.now × (well_formed 20 (unpack 20 tree.now) ≡ true) × (has 47 name.now ≡ false) }
+    ensures { LookStepIs (digits 64 v.entry.ed.hidden) (cut v.entry.plens.now v.entry.paths.now) (unpack 20 tree.now) below.now name.now «last» result }
 {
     let Some(seen) = crate::seen::seen_in(tree, name, true) else {
         return ControlFlow::Break(None);
@@ -43,19 +35,10 @@ fn look_in(
 }
 
 // The entry at a path below the tree in a slot; `full` is that tree's path with the path. A path of no bytes has none.
-pub fn look(
-    ed: Record,
-    plens: &[u64],
-    paths: &[u8],
-    tlens: &[u64],
-    trees: &[u8],
-    full: &[u8],
-    path: &[u8],
-    slot: usize,
-) -> Option<Seen>
-    requires { Laid 20 ed plens.now paths.now tlens.now trees.now × (ed.hidden ≡ ed.free) × Used ed slot × (full.now ≡ fullPath (path_of plens.now paths.now slot) path.now) }
+pub fn look(v: View<'_>, full: &[u8], path: &[u8], slot: usize) -> Option<Seen>
+    requires { LaidSeen 20 v × (v.ed.hidden ≡ v.ed.free) × Used v.ed slot × (full.now ≡ fullPath (path_of v.plens.now v.paths.now slot) path.now) }
     ensures { looked_as (base path.now) (Ok result)
-        ≡ looked_up (components path.now) (path_of plens.now paths.now slot) (view_of 20 ed plens.now paths.now tlens.now trees.now) }
+        ≡ looked_up (components path.now) (path_of v.entry.plens.now v.entry.paths.now slot) (view_of 20 v.entry.ed v.entry.plens.now v.entry.paths.now v.entry.tlens.now v.entry.trees.now) }
 {
     if path.len() == 0 {
         return None;

@@ -49,9 +49,9 @@ pub struct MeasureStep<'a> {
 }
 
 // The entry of a name in the tree at hand.
-fn seen_at(ed: Record, tlens: &[u64], trees: &[u8], level: Level<'_>, name: &[u8]) -> Option<Seen>
-    requires { Stored ed.trees tlens.now trees.now × ((t : Tree) × Stands tlens.now trees.now level t) × (has 47 name.now ≡ false) }
-    ensures { SeenAt tlens.now trees.now level.entry name.now result }
+fn seen_at(v: View<'_>, level: Level<'_>, name: &[u8]) -> Option<Seen>
+    requires { Stored v.ed.trees v.tlens.now v.trees.now × ((t : Tree) × Stands v.tlens.now v.trees.now level t) × (has 47 name.now ≡ false) }
+    ensures { SeenAt v.entry.tlens.now v.entry.trees.now level.entry name.now result }
 {
     match level {
         Level::Slot(slot) => {
@@ -124,22 +124,11 @@ fn landed<'a>(landing: Landing<'a>, n: usize, u: Counts) -> MeasureStep<'a>
 }
 
 // The step down after a turn, to the path `below`.
-fn go_down<'a>(
-    ed: Record,
-    plens: &[u64],
-    paths: &[u8],
-    ids: &[u8],
-    ends: &[u32],
-    raws: &'a [u8],
-    below: &[u8],
-    turn: Turn,
-    edit: Edit,
-    u: Counts,
-) -> MeasureStep<'a>
-    requires { Sound plens.now paths.now ed.paths × (length plens.now ≡ 64) × (good_table 20 (table_of ids.now ends.now raws.now) ≡ true)
+fn go_down<'a>(v: View<'_>, table: Objects<'_>, below: &[u8], turn: Turn, edit: Edit, u: Counts) -> MeasureStep<'a>
+    requires { Sound v.plens.now v.paths.now v.ed.paths × (length v.plens.now ≡ 64) × (good_table 20 (objects_in table) ≡ true)
         × (withinLimits (counts_as u) ≡ true) × (length below.now ≤ 1280) }
     ensures { (tlens trees : List ℕ) → length tlens ≡ 64 → StepIs tlens trees
-        (down_as (table_of ids.now ends.now raws.now) (as_edit edit) below.now (wanted_by turn) (cached_of 20 ed plens.now paths.now tlens trees) (counts_as u)) result }
+        (down_as (objects_in table.entry) (as_edit edit) below.now (wanted_by turn) (cached_of 20 v.entry.ed v.entry.plens.now v.entry.paths.now tlens trees) (counts_as u)) result }
 {
     let wanted = turn.wanted();
     let leaf = edit.is_leaf_removal();
@@ -148,29 +137,13 @@ fn go_down<'a>(
 }
 
 // One step: the edit at the component `name`, with the path `below` of the tree below it.
-fn step<'a>(
-    ed: Record,
-    plens: &[u64],
-    paths: &[u8],
-    tlens: &[u64],
-    trees: &[u8],
-    ids: &[u8],
-    ends: &[u32],
-    raws: &'a [u8],
-    below: &[u8],
-    name: &[u8],
-    edit: Edit,
-    last: bool,
-    opening: bool,
-    level: Level<'a>,
-    u: Counts,
-) -> MeasureStep<'a>
-    requires { Sound plens.now paths.now ed.paths × (length plens.now ≡ 64) × Stored ed.trees tlens.now trees.now
-        × (good_table 20 (table_of ids.now ends.now raws.now) ≡ true) × ((t : Tree) × Stands tlens.now trees.now level t)
+fn step<'a>(v: View<'_>, table: Objects<'_>, below: &[u8], name: &[u8], edit: Edit, last: bool, opening: bool, level: Level<'a>, u: Counts) -> MeasureStep<'a>
+    requires { Sound v.plens.now v.paths.now v.ed.paths × (length v.plens.now ≡ 64) × Stored v.ed.trees v.tlens.now v.trees.now
+        × (good_table 20 (objects_in table) ≡ true) × ((t : Tree) × Stands v.tlens.now v.trees.now level t)
         × (has 47 name.now ≡ false) × (length below.now ≤ 1280) × (length name.now ≤ 1280) × (withinLimits (counts_as u) ≡ true) }
-    ensures { (t : Tree) → Stands tlens.now trees.now level.entry t → StepIs tlens.now trees.now
-        (step_as (table_of ids.now ends.now raws.now) (as_edit edit) opening «last» below.now name.now t
-        (cached_of 20 ed plens.now paths.now tlens.now trees.now) (counts_as u)) result }
+    ensures { (t : Tree) → Stands v.entry.tlens.now v.entry.trees.now level.entry t → StepIs v.entry.tlens.now v.entry.trees.now
+        (step_as (objects_in table.entry) (as_edit edit) opening «last» below.now name.now t
+        (cached_of 20 v.entry.ed v.entry.plens.now v.entry.paths.now v.entry.tlens.now v.entry.trees.now) (counts_as u)) result }
 {
     let n = name.len();
     if n == 0 {
@@ -196,25 +169,11 @@ fn is_over(kept: bool, going: bool, last: bool) -> bool
 }
 
 // The number of an edit, and whether each of its steps keeps the limits, from the tree in a slot; `full` is that tree's path with the path.
-pub fn measure(
-    ed: Record,
-    plens: &[u64],
-    paths: &[u8],
-    tlens: &[u64],
-    trees: &[u8],
-    ids: &[u8],
-    ends: &[u32],
-    raws: &[u8],
-    full: &[u8],
-    path: &[u8],
-    edit: Edit,
-    opening: bool,
-    slot: usize,
-) -> Measured
-    requires { Laid 20 ed plens.now paths.now tlens.now trees.now × (ed.hidden ≡ ed.free) × (fits (view_of 20 ed plens.now paths.now tlens.now trees.now) ≡ true)
-        × (good_table 20 (table_of ids.now ends.now raws.now) ≡ true) × Used ed slot × (full.now ≡ fullPath (path_of plens.now paths.now slot) path.now) × (length full.now ≤ 1280) }
-    ensures { MeasuredAs (measured sha1 (table_of ids.now ends.now raws.now) (as_edit edit) opening (path_of plens.now paths.now slot) path.now
-        (view_of 20 ed plens.now paths.now tlens.now trees.now)) result }
+pub fn measure(v: View<'_>, table: Objects<'_>, full: &[u8], path: &[u8], edit: Edit, opening: bool, slot: usize) -> Measured
+    requires { LaidSeen 20 v × (v.ed.hidden ≡ v.ed.free) × (fits (view_of 20 v.ed v.plens.now v.paths.now v.tlens.now v.trees.now) ≡ true)
+        × (good_table 20 (objects_in table) ≡ true) × Used v.ed slot × (full.now ≡ fullPath (path_of v.plens.now v.paths.now slot) path.now) × (length full.now ≤ 1280) }
+    ensures { MeasuredAs (measured sha1 (objects_in table.entry) (as_edit edit) opening (path_of v.entry.plens.now v.entry.paths.now slot) path.now
+        (view_of 20 v.entry.ed v.entry.plens.now v.entry.paths.now v.entry.tlens.now v.entry.trees.now)) result }
 {
     if path.len() == 0 {
         return Measured {
