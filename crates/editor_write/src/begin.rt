@@ -9,10 +9,9 @@ ghost use Rattle.editor_terms.specs.Answers.{code_number};
 ghost use Rattle.editor.specs.Lent.{lent, Does};
 ghost use Rattle.editor_write.specs.Steps.{HoldsExactly, Made, Answers, Starts};
 
-use editor_terms::code::Code;
-use editor_walk::apply::Answer;
+use editor_terms::refusal::Refusal;
 use names::limits::{PATH_BYTES, SLOTS, TREE_BYTES, WIDTH};
-use store_slots::{Found, Record};
+use store_slots::{Record, Store};
 
 // Begins a write at the cached tree in a slot, over slices that hold an editor with none open. `from` is 1 where it is the root's and 2 where it is a cursor's.
 fn begin_slot(s: &mut Store<'_>, order: &mut [u64], slot: usize, from: u64)
@@ -21,11 +20,10 @@ fn begin_slot(s: &mut Store<'_>, order: &mut [u64], slot: usize, from: u64)
         (lent_in s.new order.new) }
     ensures lent { SameLent s.old s.new }
 {
-    let empty = Record { open: from, ..ed };
-    let one = store_taken::stack(empty, order, slot);
-    let next = editor_write_steps::turn::onward(one, plens, paths, tlens, trees, order, WIDTH);
-    let two = next.editor;
-    store_taken::ask(two, next.slot)
+    s.ed.open = from;
+    store_taken::stack(&mut s.ed, order, slot);
+    let next = editor_write_steps::turn::onward(s, order, WIDTH);
+    store_taken::ask(&mut s.ed, next);
 }
 
 // Begins a write at the tree at a prefix, over slices that hold an editor with none open.
@@ -35,19 +33,35 @@ fn begin_held(s: &mut Store<'_>, order: &mut [u64], prefix: &[u8], from: u64) ->
         (lent_in s.new order.new) }
     ensures lent { SameLent s.old s.new }
 {
-    match store_slots::find(ed, plens, paths, prefix) {
-        Found::Nothing => Answer {
-            code: Code::CursorStale,
-            ed,
-        },
-        Found::At(slot) => {
-            let q = begin_slot(ed, plens, paths, tlens, trees, order, slot, from);
-            Answer {
-                code: Code::Done,
-                ed: q,
-            }
-        }
-    }
+    let slot = s.view().find(prefix).ok_or(Refusal::CursorStale)?;
+    begin_slot(s, order, slot, from);
+    Ok(())
+}
+
+// The same in the fronts of slices that may be longer.
+fn begin_fronts(
+    ed: &mut Record,
+    plens: &mut [u64],
+    paths: &mut [u8],
+    tlens: &mut [u64],
+    trees: &mut [u8],
+    order: &mut [u64],
+    prefix: &[u8],
+    from: u64,
+) -> Result<(), Refusal>
+    requires { Good (lent ed.old plens.old paths.old tlens.old trees.old order.old) × (ed.old.«open» ≡ 0) × Starts from prefix.now }
+    ensures { Does (begun sha1 (start_of from prefix.now)) (lent ed.old plens.old paths.old tlens.old trees.old order.old) (code_number result) (lent ed.new plens.new paths.new tlens.new trees.new order.new) }
+{
+    let mut exact = Store {
+        ed: *ed,
+        plens: &mut plens[..SLOTS],
+        paths: &mut paths[..PATH_BYTES],
+        tlens: &mut tlens[..SLOTS],
+        trees: &mut trees[..TREE_BYTES],
+    };
+    let answer = begin_held(&mut exact, &mut order[..SLOTS], prefix, from);
+    *ed = exact.ed;
+    answer
 }
 
 // Begins a write at a prefix, from the root (1) or from a cursor (2).
@@ -57,28 +71,13 @@ fn begin_from(s: &mut Store<'_>, order: &mut [u64], prefix: &[u8], from: u64) ->
         (lent_in s.new order.new) }
     ensures lent { SameLent s.old s.new }
 {
-    if !store_check::holds::holds(ed, plens, paths, tlens, trees, order) {
-        return Answer {
-            code: Code::StoreDamaged,
-            ed,
-        };
+    if !store_check::holds::holds(s.view(), order) {
+        return Err(Refusal::StoreDamaged);
     }
-    if ed.open != 0 {
-        return Answer {
-            code: Code::WriteOpen,
-            ed,
-        };
+    if s.ed.open != 0 {
+        return Err(Refusal::WriteOpen);
     }
-    begin_held(
-        ed,
-        &mut plens[..SLOTS],
-        &mut paths[..PATH_BYTES],
-        &mut tlens[..SLOTS],
-        &mut trees[..TREE_BYTES],
-        &mut order[..SLOTS],
-        prefix,
-        from,
-    )
+    begin_fronts(&mut s.ed, &mut *s.plens, &mut *s.paths, &mut *s.tlens, &mut *s.trees, order, prefix, from)
 }
 
 // Begins a write from the root.
@@ -87,7 +86,7 @@ pub fn begin(s: &mut Store<'_>, order: &mut [u64]) -> Result<(), Refusal>
         (lent_in s.new order.new) }
     ensures lent { SameLent s.old s.new }
 {
-    begin_from(ed, plens, paths, tlens, trees, order, b"", 1)
+    begin_from(s, order, b"", 1)
 }
 
 // Begins a write at a cursor's prefix.
@@ -96,5 +95,5 @@ pub fn begin_at(s: &mut Store<'_>, order: &mut [u64], prefix: &[u8]) -> Result<(
         (lent_in s.new order.new) }
     ensures lent { SameLent s.old s.new }
 {
-    begin_from(ed, plens, paths, tlens, trees, order, prefix, 2)
+    begin_from(s, order, prefix, 2)
 }
