@@ -8,11 +8,12 @@ ghost use Rattle.editor_terms.specs.Objects.{table_of};
 ghost use Rattle.editor.specs.Lent.{lent, Does};
 ghost use Rattle.adapter_numbers.specs.Numbers.{Numbers, put_by};
 
-use crate::Numbered;
 use editor_terms::edit::{Edit, RemoveKind};
 use names::limits::WIDTH;
-use names::mode::{Mode, ModeRead};
-use store_slots::Record;
+use editor_terms::refusal::number;
+use editor_terms::table::Table;
+use names::mode::Mode;
+use store_slots::Store;
 
 // An edit at a path below a prefix.
 fn numbered_edit(s: &mut Store<'_>, order: &[u64], table: Table<'_>, prefix: &[u8], path: &[u8], edit: Edit) -> u8
@@ -21,15 +22,7 @@ fn numbered_edit(s: &mut Store<'_>, order: &[u64], table: Table<'_>, prefix: &[u
         (lent_in s.new order.now) }
     ensures lent { SameLent s.old s.new }
 {
-    let a = editor::edit::edit(
-        ed, plens, paths, tlens, trees, order, ids, ends, raws, prefix, path, edit, false,
-    );
-    let code = a.code;
-    let now = a.ed;
-    Numbered {
-        code: editor_terms::code::number(code),
-        ed: now,
-    }
+    number(editor::edit::edit(s, order, table, prefix, path, edit, false))
 }
 
 // Sets the entry at a path below a prefix: 255 where the mode is none of the five, or the id has not 20 bytes.
@@ -39,17 +32,13 @@ pub fn upsert(s: &mut Store<'_>, order: &[u64], table: Table<'_>, prefix: &[u8],
         (lent_in s.new order.now) }
     ensures lent { SameLent s.old s.new }
 {
-    if id.len() != WIDTH {
-        return Numbered { code: 255, ed };
-    }
-    match (Mode { bits: mode }).kind() {
-        ModeRead::Refused => Numbered { code: 255, ed },
-        ModeRead::Kind(kind) => {
+    let kind = Mode { bits: mode }.kind();
+    match kind {
+        Some(kind) if id.len() == WIDTH => {
             let edit = Edit::Upsert(kind, editor_terms::id::id_at(id, 0));
-            numbered_edit(
-                ed, plens, paths, tlens, trees, order, ids, ends, raws, prefix, path, edit,
-            )
+            numbered_edit(s, order, table, prefix, path, edit)
         }
+        _ => 255,
     }
 }
 
@@ -60,10 +49,7 @@ pub fn remove(s: &mut Store<'_>, order: &[u64], table: Table<'_>, prefix: &[u8],
         (lent_in s.new order.now) }
     ensures lent { SameLent s.old s.new }
 {
-    let edit = Edit::Remove(RemoveKind::Any);
-    numbered_edit(
-        ed, plens, paths, tlens, trees, order, ids, ends, raws, prefix, path, edit,
-    )
+    numbered_edit(s, order, table, prefix, path, Edit::Remove(RemoveKind::Any))
 }
 
 // Removes the entry at a path below a prefix, which must not be a tree.
@@ -73,10 +59,7 @@ pub fn remove_leaf(s: &mut Store<'_>, order: &[u64], table: Table<'_>, prefix: &
         (lent_in s.new order.now) }
     ensures lent { SameLent s.old s.new }
 {
-    let edit = Edit::Remove(RemoveKind::Leaf);
-    numbered_edit(
-        ed, plens, paths, tlens, trees, order, ids, ends, raws, prefix, path, edit,
-    )
+    numbered_edit(s, order, table, prefix, path, Edit::Remove(RemoveKind::Leaf))
 }
 
 // Opens a cursor at a path, where a tree is then cached.
@@ -86,11 +69,6 @@ pub fn cursor_at(s: &mut Store<'_>, order: &[u64], table: Table<'_>, path: &[u8]
         (lent_in s.new order.now) }
     ensures lent { SameLent s.old s.new }
 {
-    let o = editor::cursor::cursor_at(ed, plens, paths, tlens, trees, order, ids, ends, raws, path);
-    let code = o.code;
-    let opened = o.ed;
-    Numbered {
-        code: editor_terms::code::number(code),
-        ed: opened,
-    }
+    let opened = editor::cursor::cursor_at(s, order, table, path);
+    number(opened.map(|_| ()))
 }

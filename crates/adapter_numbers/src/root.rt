@@ -4,8 +4,8 @@ ghost use Rattle.model.specs.Formats.{sha1};
 ghost use Rattle.editor.specs.Lent.{lent, Does};
 ghost use Rattle.editor.specs.Roots.{Makes};
 
-use crate::Numbered;
-use store_slots::Record;
+use editor_terms::refusal::number;
+use store_slots::Store;
 
 // Makes an editor with this root.
 pub fn new(s: &mut Store<'_>, order: &[u64], raw: &[u8]) -> u8
@@ -14,13 +14,7 @@ pub fn new(s: &mut Store<'_>, order: &[u64], raw: &[u8]) -> u8
         (lent_in s.new order.now) }
     ensures lent { SameLent s.old s.new }
 {
-    let a = editor::root::new(ed, plens, paths, tlens, trees, order, raw);
-    let code = a.code;
-    let now = a.ed;
-    Numbered {
-        code: editor_terms::code::number(code),
-        ed: now,
-    }
+    number(editor::root::new(s, order, raw))
 }
 
 // Sets the root, and drops every cached tree.
@@ -30,11 +24,5 @@ pub fn set_root(s: &mut Store<'_>, order: &[u64], raw: &[u8]) -> u8
         (lent_in s.new order.now) }
     ensures lent { SameLent s.old s.new }
 {
-    let a = editor::root::set_root(ed, plens, paths, tlens, trees, order, raw);
-    let code = a.code;
-    let now = a.ed;
-    Numbered {
-        code: editor_terms::code::number(code),
-        ed: now,
-    }
+    number(editor::root::set_root(s, order, raw))
 }
