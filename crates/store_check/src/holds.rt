@@ -8,7 +8,7 @@ ghost use Rattle.store_check.specs.Stored.{Stored};
 
 use crate::lent::Lent;
 use names::limits::{PATH_BYTES, SLOTS, TREE_BYTES, WIDTH};
-use store_slots::Record;
+use store_slots::View;
 
 // Whether slices as long as a store hold an editor with ids of this width.
 fn exact(s: Lent<'_>) -> bool
@@ -21,16 +21,16 @@ fn exact(s: Lent<'_>) -> bool
 }
 
 // Whether the record and the slices hold an editor with ids of 20 bytes.
-pub fn holds(
-    r: Record,
-    plens: &[u64],
-    paths: &[u8],
-    tlens: &[u64],
-    trees: &[u8],
-    order: &[u64],
-) -> bool
-    ensures { Decides (Stored sha1 r plens.now paths.now tlens.now trees.now order.now) result }
+pub fn holds(v: View<'_>, order: &[u64]) -> bool
+    ensures { Decides (Stored sha1 v.entry.ed v.entry.plens.now v.entry.paths.now v.entry.tlens.now v.entry.trees.now order.now) result }
 {
+    let View {
+        ed,
+        plens,
+        paths,
+        tlens,
+        trees,
+    } = v;
     if plens.len() < SLOTS
         || paths.len() < PATH_BYTES
         || tlens.len() < SLOTS
@@ -40,7 +40,7 @@ pub fn holds(
         return false;
     }
     exact(Lent {
-        record: r,
+        record: ed,
         plens: &plens[..SLOTS],
         paths: &paths[..PATH_BYTES],
         tlens: &tlens[..SLOTS],

@@ -22,7 +22,7 @@ use names::limits::SLOTS;
 use names::order::Key;
 use names_compact::compact::Tree;
 use store_runs::bits;
-use store_slots::Record;
+use store_slots::{Record, View};
 
 // The map with a slot set that is not set; None where there is no such slot.
 fn mark(map: u64, slot: u64) -> Option<u64>
@@ -266,7 +266,14 @@ impl<'a> Laid<'a> {
         ensures { result ≡ is_some (find at [] (cached_in self.entry.store)) }
     {
         let s = self.store;
-        store_slots::find(s.record, s.plens, s.paths, names::part::front(s.paths, 0)).is_some()
+        let v = View {
+            ed: s.record,
+            plens: s.plens,
+            paths: s.paths,
+            tlens: s.tlens,
+            trees: s.trees,
+        };
+        v.find(b"").is_some()
     }
 
     // Whether the open write, if one is open, is one that can be.

@@ -2,7 +2,7 @@
 use crate::words::{front, half_at, word_at};
 use std::io;
 use std::io::Read;
-use store_slots::Record;
+use store_slots::{Record, View};
 
 // Room for the five slices of a store.
 #[derive(Drop)]
@@ -80,14 +80,14 @@ impl Room<'_> {
 
     // Whether a store with this head holds an editor whose slices are at the front of these.
     fn is_good(&self, head: Head) -> bool {
-        store_check::holds::holds(
-            head.record,
-            front(&*self.plens, head.plens),
-            front(&*self.paths, head.paths),
-            front(&*self.tlens, head.tlens),
-            front(&*self.trees, head.trees),
-            front(&*self.order, head.order),
-        )
+        let v = View {
+            ed: head.record,
+            plens: front(&*self.plens, head.plens),
+            paths: front(&*self.paths, head.paths),
+            tlens: front(&*self.tlens, head.tlens),
+            trees: front(&*self.trees, head.trees),
+        };
+        store_check::holds::holds(v, front(&*self.order, head.order))
     }
 
     // Reads a store and says whether it holds an editor. False, with nothing printed, where there is none.

@@ -11,18 +11,18 @@ returns-then-plens-lt-SLOTS c = refuses (λ h. omega (arith, h.plens_room, h.pat
 
 pub invariant_of-exact : goal.invariant_of-exact
 invariant_of-exact c =
-    let a = c.args in
+    let a = c.args.v in
     record {
       plens_64 = length-take-le 64 a.plens.now c.if-plens-lt-SLOTS.false;
       paths_room = length-take-le 8192 a.paths.now c.if-paths-lt-PATH_BYTES.false;
       tlens_64 = length-take-le 64 a.tlens.now c.if-tlens-lt-SLOTS.false;
       trees_room = length-take-le 38912 a.trees.now c.if-trees-lt-TREE_BYTES.false;
-      order_64 = length-take-le 64 a.order.now c.if-order-lt-SLOTS.false;
+      order_64 = length-take-le 64 c.args.order.now c.if-order-lt-SLOTS.false;
       narrow = omega arith;
     }
 
 pub returns : goal.returns
 returns c =
-    let a = c.args in
-    stored_decides a.r a.plens.now a.paths.now a.tlens.now a.trees.now a.order.now c.exact.result
+    let a = c.args.v in
+    stored_decides a.ed a.plens.now a.paths.now a.tlens.now a.trees.now c.args.order.now c.exact.result
     c.if-plens-lt-SLOTS.false c.if-paths-lt-PATH_BYTES.false c.if-tlens-lt-SLOTS.false c.if-trees-lt-TREE_BYTES.false c.if-order-lt-SLOTS.false (c.exact.ensures sha1 sha1_width)

@@ -16,4 +16,4 @@ returns c =
     let ps = cut s.plens.now s.paths.now in
     let bs = cut s.tlens.now s.trees.now in
     c.is_some.ensures ∙ any_found s.width ds ps bs [] c.find.result
-    (subst (λ (q : Bytes). SlotIs s.width ds ps bs q c.find.result) c.front.ensures (c.find.ensures s.width bs (length_cut s.tlens.now s.trees.now ∙ s.tlens_64)))
+    (c.find.ensures s.width bs (length_cut s.tlens.now s.trees.now ∙ s.tlens_64))
