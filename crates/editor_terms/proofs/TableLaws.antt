@@ -1,20 +1,20 @@
 -- Laws of the object table: no object passed has the id and the offsets so far do not fall, so what is left of it decides. Assumes nothing.
 use Prim.Native.Nat.{ℕ, ◌+◌, ◌-◌, ◌*◌, ◌/◌, ◌%◌, ◌≤◌, ◌<◌}
 use mathlib.Core.Path.{◌≡◌, refl, sym, ap, ap₂, ◌∙◌}
-use mathlib.Core.List.{List}
-use mathlib.Core.Bool.{Bool, true, false, ◌&&◌, cond}
-use mathlib.Core.Option.{some}
+use mathlib.Core.List.{List, [], ◌∷◌, ◌++◌}
+use mathlib.Core.Logic.{◌⊎◌, inl, inr}
+use mathlib.Core.Bool.{true, false, ◌&&◌, cond}
+use mathlib.Core.Option.{none, some}
 use native.Mathlib.Numerals.{add-one}
 use native.Mathlib.Omega.{arith}
 use lib.Dec.{leb, eqb}
-use lib.ListN.{length, get_or, take, drop, drop_of_length-le}
-use lib.Seq.{drop-cons, drop-drop}
+use lib.ListN.{length, get_or, take, drop, drop_of_length-le, length-append}
+use lib.Seq.{drop-cons, drop-drop, take-append_seam, drop-append_seam}
 use borrow.Author.Tests.{le-leb, lt-leb, leb-true, eq-eqb, ne_eqb, eqb-true}
 use Rattle.model.specs.Bytes.{Bytes, same}
 use Rattle.model.specs.Table.{ends_from, good_table, raw_of, looked_up}
 use Rattle.model.proofs.Basics.{and_left, and_right}
-use Rattle.editor_terms.specs.Objects.{table_of, FoundIn}
-use Rattle.editor_terms.specs.declared.table.Object.TheVariants.{At, Nothing}
+use Rattle.editor_terms.specs.Objects.{table_of}
 
 -- the offsets from i on, with the raws from `from` on
 ends_step : (ends : List ℕ) (size from i : ℕ) → i < length ends →
@@ -58,60 +58,63 @@ module _ (ids : Bytes) (ends : List ℕ) (raws : Bytes) where
   good_each e f = rw (eq-eqb (length ids) (20 * length ends) (let q : length ids ≡ 20 * length ends = omega arith in q))
 
 -- what is left of the table decides
-pub record Finding (ids : Bytes) (ends : List ℕ) (raws wanted : Bytes) (from i : ℕ) : Type 0 where
-  pub within : i ≤ length ends
-  pub long : length ids ≡ 20 * length ends
+pub record Finding (ids : Bytes) (ends : List ℕ) (raws wanted : Bytes) (from : ℕ) (left : Bytes) (over : List ℕ) : Type 0 where
+  pub long : length left ≡ 20 * length over
   pub sound : from ≤ length raws
-  pub good : ends_from from (length raws) (drop i ends) ≡ true
-  pub rest : looked_up 20 (table_of ids ends raws) wanted ≡ raw_of 20 wanted (drop i ends) (drop (i * 20) ids) from (drop from raws)
+  pub good : ends_from from (length raws) over ≡ true
+  pub rest : looked_up 20 (table_of ids ends raws) wanted ≡ raw_of 20 wanted over left from (drop from raws)
 
-pub find_begin : (ids : Bytes) (ends : List ℕ) (raws wanted : Bytes) → good_table 20 (table_of ids ends raws) ≡ true → Finding ids ends raws wanted 0 0
+pub find_begin : (ids : Bytes) (ends : List ℕ) (raws wanted : Bytes) → good_table 20 (table_of ids ends raws) ≡ true → Finding ids ends raws wanted 0 ids ends
 unfolding good_table looked_up
 find_begin ids ends raws wanted e =
     record {
-      within = omega arith;
       long = eqb-true (length ids) (20 * length ends) (and_left (eqb (length ids) (20 * length ends)) (ends_from 0 (length raws) ends) e);
       sound = omega arith;
       good = and_right (eqb (length ids) (20 * length ends)) (ends_from 0 (length raws) ends) e;
       rest = refl;
     }
 
-module _ {ids : Bytes} {ends : List ℕ} {raws wanted : Bytes} {from i : ℕ} (k : Finding ids ends raws wanted from i) where
-  pub find_none : length ends ≤ i → FoundIn (looked_up 20 (table_of ids ends raws) wanted) raws Nothing
-  find_none h = record { is = k.rest ∙ rw (drop_of_length-le ends h); within = tt }
+module _ {ids : Bytes} {ends : List ℕ} {raws wanted : Bytes} {from : ℕ} {left : Bytes} {over : List ℕ} (k : Finding ids ends raws wanted from left over) where
+  pub find_none : (length left < 20) ⊎ (length over ≡ 0) → looked_up 20 (table_of ids ends raws) wanted ≡ none
+  find_none h = k.rest ∙ rw (no_more over (of h))
+    where
+      of : (length left < 20) ⊎ (length over ≡ 0) → length over ≡ 0
+      of (inl f) = omega (arith, f, k.long)
+      of (inr f) = f
 
-  module _ (h : i < length ends) where
-    abbrev e : ℕ
-    e = get_or ends i 0
+      no_more : (l : List ℕ) → length l ≡ 0 → l ≡ []
+      no_more [] e = refl
+      no_more (x ∷ xs) e = absurd (omega (arith, e))
 
-    parts : (leb from e && leb e (length raws) && ends_from e (length raws) (drop (i + 1) ends)) ≡ true
-    parts = sym (ends_step ends (length raws) from i h) ∙ k.good
+  -- the next object ends there
+  module _ {e : ℕ} {rest : List ℕ} (q : over ≡ e ∷ rest) where
+    both : (leb from e && leb e (length raws) && ends_from e (length raws) rest) ≡ true
+    both = ap (ends_from from (length raws)) (sym q) ∙ k.good
 
-    rises : from ≤ e
-    rises = leb-true from e (and_left (leb from e) (leb e (length raws)) (and_left (leb from e && leb e (length raws)) (ends_from e (length raws) (drop (i + 1) ends)) parts))
+    pub rises : from ≤ e
+    rises = leb-true from e (and_left (leb from e) (leb e (length raws)) (and_left (leb from e && leb e (length raws)) (ends_from e (length raws) rest) both))
 
-    inside : e ≤ length raws
-    inside = leb-true e (length raws) (and_right (leb from e) (leb e (length raws)) (and_left (leb from e && leb e (length raws)) (ends_from e (length raws) (drop (i + 1) ends)) parts))
+    pub inside : e ≤ length raws
+    inside = leb-true e (length raws) (and_right (leb from e) (leb e (length raws)) (and_left (leb from e && leb e (length raws)) (ends_from e (length raws) rest) both))
 
-    step : looked_up 20 (table_of ids ends raws) wanted
-        ≡ cond (same (take 20 (drop (i * 20) ids)) wanted) (some (take (e - from) (drop from raws))) (raw_of 20 wanted (drop (i + 1) ends) (drop 20 (drop (i * 20) ids)) e (drop (e - from) (drop from raws)))
-    step = k.rest ∙ rw (add-one, drop-cons ends i 0 h)
+    -- and has this id, with more of them after it
+    module _ (id more : Bytes) (p : left ≡ id ++ more) (w : length id ≡ 20) where
+      step : looked_up 20 (table_of ids ends raws) wanted
+          ≡ cond (same id wanted) (some (take (e - from) (drop from raws))) (raw_of 20 wanted rest more e (drop (e - from) (drop from raws)))
+      step = k.rest ∙ ap₂ (λ (a : List ℕ) (b : Bytes). raw_of 20 wanted a b from (drop from raws)) q p
+          ∙ ap₂ (λ (a b : Bytes). cond (same a wanted) (some (take (e - from) (drop from raws))) (raw_of 20 wanted rest b e (drop (e - from) (drop from raws))))
+          (ap (λ (n : ℕ). take n (id ++ more)) (sym w) ∙ take-append_seam id more) (ap (λ (n : ℕ). drop n (id ++ more)) (sym w) ∙ drop-append_seam id more)
 
-    pub find_here : {s : Bytes} {r : Bool} → s ≡ take 20 (drop (i * 20) ids) → r ≡ same s wanted → r ≡ true → FoundIn (looked_up 20 (table_of ids ends raws) wanted) raws (At from e)
-    find_here {s} {r} a b f = record {
-      is = step ∙ rw (ap (λ (z : Bytes). same z wanted) (sym a) ∙ sym b ∙ f);
-      within = (rises, inside);
-    }
+      pub find_here : same id wanted ≡ true → looked_up 20 (table_of ids ends raws) wanted ≡ some (take (e - from) (drop from raws))
+      find_here f = step ∙ rw f
 
-    pub find_more : {s : Bytes} {r : Bool} → s ≡ take 20 (drop (i * 20) ids) → r ≡ same s wanted → r ≡ false → Finding ids ends raws wanted e (i + 1)
-    find_more {s} {r} a b f =
-        let p : i * 20 + 20 ≡ (i + 1) * 20 = omega arith in
-        let q : from + (e - from) ≡ e = omega (arith, rises) in
-        record {
-          within = omega arith;
-          long = k.long;
-          sound = inside;
-          good = and_right (leb from e && leb e (length raws)) (ends_from e (length raws) (drop (i + 1) ends)) parts;
-          rest = step ∙ rw (ap (λ (z : Bytes). same z wanted) (sym a) ∙ sym b ∙ f)
-              (ap₂ (λ (x y : Bytes). raw_of 20 wanted (drop (i + 1) ends) x e y) (drop-drop 20 (i * 20) ids ∙ ap (λ (n : ℕ). drop n ids) p) (drop-drop (e - from) from raws ∙ ap (λ (n : ℕ). drop n raws) q));
-        }
+      pub find_more : same id wanted ≡ false → Finding ids ends raws wanted e more rest
+      find_more f =
+          let m : length (id ++ more) ≡ length id + length more = length-append id more in
+          let n : from + (e - from) ≡ e = omega (arith, rises) in
+          record {
+            long = omega (arith, k.long, ap length p, ap length q, m, w);
+            sound = inside;
+            good = and_right (leb from e && leb e (length raws)) (ends_from e (length raws) rest) both;
+            rest = step ∙ rw f (ap (raw_of 20 wanted rest more e) (drop-drop (e - from) from raws ∙ ap (λ (n : ℕ). drop n raws) n));
+          }

@@ -1,20 +1,27 @@
 -- The numbers of the answers. Assumes nothing.
-use Rattle.std.specs.Prelude.{ℕ}
-use Rattle.editor_terms.specs.declared.code.Code.{Code}
-use Rattle.editor_terms.specs.declared.code.Code.TheVariants.{Done, EmptyComponent, TreeNotFound, TreeDamaged, NotALeaf, NoRoom, PathRefused, BadTable, CursorStale, WriteOpen, NoWriteOpen, OutputShort, BadRoot, StoreDamaged}
+use Rattle.std.specs.Prelude.{ℕ, Result, Ok, Err}
+use Rattle.editor_terms.specs.declared.refusal.Refusal.{Refusal}
+use Rattle.editor_terms.specs.declared.refusal.Refusal.TheVariants.{EmptyComponent, TreeNotFound, TreeDamaged, NotALeaf, NoRoom, PathRefused, BadTable, CursorStale, WriteOpen, NoWriteOpen, OutputShort, BadRoot, StoreDamaged}
 
-abbrev pub code_number : Code → ℕ
-code_number Done = 0
-code_number EmptyComponent = 1
-code_number TreeNotFound = 2
-code_number TreeDamaged = 3
-code_number NotALeaf = 4
-code_number NoRoom = 5
-code_number PathRefused = 6
-code_number BadTable = 7
-code_number CursorStale = 8
-code_number WriteOpen = 9
-code_number NoWriteOpen = 10
-code_number (OutputShort needed) = 11
-code_number BadRoot = 12
-code_number StoreDamaged = 13
+abbrev pub refusal_number : Refusal → ℕ
+refusal_number EmptyComponent = 1
+refusal_number TreeNotFound = 2
+refusal_number TreeDamaged = 3
+refusal_number NotALeaf = 4
+refusal_number NoRoom = 5
+refusal_number PathRefused = 6
+refusal_number BadTable = 7
+refusal_number CursorStale = 8
+refusal_number WriteOpen = 9
+refusal_number NoWriteOpen = 10
+refusal_number (OutputShort needed) = 11
+refusal_number BadRoot = 12
+refusal_number StoreDamaged = 13
+
+-- what a call answers that gives nothing but whether it is done
+abbrev pub Answer : Type 0
+Answer = Result Unit Refusal
+
+abbrev pub code_number : Answer → ℕ
+code_number (Ok done) = 0
+code_number (Err refusal) = refusal_number refusal

@@ -2,3 +2,4 @@ pub mod Answers
 pub mod Edits
 pub mod Ids
 pub mod Objects
+pub mod Tables

@@ -9,6 +9,9 @@ use Rattle.model.specs.Order.{All}
 use Rattle.model.specs.Valid.{has_parent}
 use Rattle.store_slots.specs.View.{path_of, aside_of}
 use Rattle.store_slots.specs.declared.Record.{Record}
+use Rattle.store_slots.specs.declared.Store.{Store}
+use Rattle.editor_write_steps.specs.declared.pick.Picked.{Picked}
+use Rattle.editor_write_steps.specs.declared.pick.Picked.TheVariants.{Finish, Aside}
 use Rattle.store_taken.specs.Taken.{stacked_on, taken_off, SameSlots, Between}
 
 -- a cached tree that was found is taken off the cache and stacked
@@ -53,6 +56,15 @@ turn_of (h ∷ s) k c = top_turn h (record { cache = c; stack = s; kept = k }) (
 abbrev pub turned : Going → Turn
 turned g = turn_of g.stack g.kept g.cache
 
+-- whether the tree that was taken is to be finished, and its slot
+abbrev pub is_finish : Picked → Bool
+is_finish (Finish k) = true
+is_finish (Aside k) = false
+
+abbrev pub slot_in : Picked → ℕ
+slot_in (Finish k) = k
+slot_in (Aside k) = k
+
 -- the slot in hand after a turn
 abbrev pub hand_of : Bool → ℕ → List ℕ
 hand_of true k = k ∷ []
@@ -70,6 +82,9 @@ linked_on i p g = record { cache = g.cache; stack = g.stack; kept = linked i p g
 pub record Child (w : ℕ) (r : Record) (plens paths tlens trees order : List ℕ) (k : ℕ) : Type 0 where
   pub between : Between r order (k ∷ [])
   pub parent : has_parent (path_of plens paths k) (aside_of w r plens paths tlens trees order) ≡ true
+
+abbrev pub ChildIn : ℕ → Store → List ℕ → ℕ → Type 0
+ChildIn w s order k = Child w s.ed s.plens.now s.paths.now s.tlens.now s.trees.now order k
 
 -- ---- a turn to its end
 
@@ -98,6 +113,9 @@ next_of nil g = ended nil (turned g).finish (turned g).hand (turned g).rest
 pub record Hand (w : ℕ) (r : Record) (plens paths tlens trees order : List ℕ) (k : ℕ) : Type 0 where
   pub between : Between r order (k ∷ [])
   pub parent : is_nil (aside_of w r plens paths tlens trees order) ≡ false → has_parent (path_of plens paths k) (aside_of w r plens paths tlens trees order) ≡ true
+
+abbrev pub HandIn : ℕ → Store → List ℕ → ℕ → Type 0
+HandIn w s order k = Hand w s.ed s.plens.now s.paths.now s.tlens.now s.trees.now order k
 
 -- what a turn asks: a tree is stacked or set aside, the stacked ones' paths are short, and the tree that is to be finished has its parent set aside
 pub record Ready (g : Going) : Type 0 where

@@ -7,119 +7,94 @@ ghost use Rattle.store_slots.specs.View.{Laid, Used, SameWrite, path_of, view_of
 ghost use Rattle.store_taken.specs.Taken.{going_of, Between};
 ghost use Rattle.editor_write_steps.specs.Writes.{unlinked_on, linked_on, Child};
 
+use names::limits::NAME;
 use names::mode::EntryKind;
-use store_slots::{Found, Record};
+use names::write::Entry;
+use store_slots::{Store, View};
 
 // The slot of the tree that the tree in a slot lies below.
-fn parent_of(r: Record, plens: &[u64], paths: &[u8], slot: usize) -> usize
-    requires { Sound plens.now paths.now r.paths × (length plens.now ≡ 64) × (slot < 64)
-        × ((j : ℕ) × Used r j × (path_of plens.now paths.now j ≡ dir (path_of plens.now paths.now slot))) }
-    ensures { Used r result × (path_of plens.now paths.now result ≡ dir (path_of plens.now paths.now slot)) }
+fn parent_of(v: View<'_>, slot: usize) -> usize
+    requires { Sound v.plens.now v.paths.now v.ed.paths × (length v.plens.now ≡ 64) × (slot < 64)
+        × ((j : ℕ) × Used v.ed j × (path_of v.plens.now v.paths.now j ≡ dir (path_of v.plens.now v.paths.now slot))) }
+    ensures { Used v.entry.ed result × (path_of v.entry.plens.now v.entry.paths.now result ≡ dir (path_of v.entry.plens.now v.entry.paths.now slot)) }
 {
-    let path = names::path::parent(store_slots::path_in(r, plens, paths, slot));
-    match store_slots::find_used(r, plens, paths, path) {
-        Found::At(k) => k,
-        Found::Nothing => slot,
-    }
+    let path = names::path::parent(v.path_in(slot));
+    v.find_used(path).unwrap_or(slot)
+}
+
+// Writes the name of the tree in a slot to the front of the buffer, and says how long it is.
+fn put_name(name: &mut [u8; NAME], v: View<'_>, slot: usize) -> usize
+    requires { Sound v.plens.now v.paths.now v.ed.paths × (slot < length v.plens.now) × (length (base (path_of v.plens.now v.paths.now slot)) ≤ 255) }
+    ensures { (result ≡ length (base (path_of v.entry.plens.now v.entry.paths.now slot))) × (take result name.new ≡ base (path_of v.entry.plens.now v.entry.paths.now slot)) }
+{
+    names::write::put(name, 0, names::path::filename(v.path_in(slot)))
 }
 
 // Removes the entry of the tree in hand from its parent.
-fn remove_entry(
-    r: Record,
-    plens: &[u64],
-    paths: &[u8],
-    tlens: &mut [u64],
-    trees: &mut [u8],
-    width: usize,
-    slot: usize,
-) -> Record
-    requires { Laid width r plens.now paths.now tlens.old trees.old × (width ≤ 64) × ((order : List ℕ) × Child width r plens.now paths.now tlens.old trees.old order slot) }
-    ensures going { (order : List ℕ) → Child width r plens.now paths.now tlens.old trees.old order slot → going_of width result plens.now paths.now tlens.new trees.new order
-        ≡ unlinked_on (path_of plens.now paths.now slot) (going_of width r plens.now paths.now tlens.old trees.old order) }
-    ensures between { (order : List ℕ) → Child width r plens.now paths.now tlens.old trees.old order slot → Between result order (slot ∷ []) }
-    ensures laid { Laid width result plens.now paths.now tlens.new trees.new }
-    ensures same { SameWrite r result }
+fn remove_entry(s: &mut Store<'_>, width: usize, slot: usize)
+    requires { LaidIn width s.old × (width ≤ 64) × ((order : List ℕ) × ChildIn width s.old order slot) }
+    ensures going { (order : List ℕ) → ChildIn width s.old order slot → going_in width s.new order
+        ≡ unlinked_on (path_in_slot s.old slot) (going_in width s.old order) }
+    ensures between { (order : List ℕ) → ChildIn width s.old order slot → Between s.new.ed order (slot ∷ []) }
+    ensures laid { LaidIn width s.new }
+    ensures same { SameWrite s.old.ed s.new.ed }
+    ensures lent { SameLent s.old s.new }
+    ensures keys { SameKeys s.old s.new }
 {
-    let k = parent_of(r, plens, paths, slot);
-    let name = names::path::filename(store_slots::path_in(r, plens, paths, slot));
-    store_entries::remove(r, plens, paths, tlens, trees, width, k, name)
+    let mut name = [0u8; NAME];
+    let n = put_name(&mut name, s.view(), slot);
+    let parent = parent_of(s.view(), slot);
+    store_entries::remove(s, width, parent, &name[..n]);
 }
 
 // An empty tree's entry in its parent goes, and the tree itself.
-pub fn unlink(
-    r: Record,
-    plens: &mut [u64],
-    paths: &mut [u8],
-    tlens: &mut [u64],
-    trees: &mut [u8],
-    width: usize,
-    slot: usize,
-) -> Record
-    requires { Laid width r plens.old paths.old tlens.old trees.old × (width ≤ 64) × ((order : List ℕ) × Child width r plens.old paths.old tlens.old trees.old order slot) }
-    ensures going { (order : List ℕ) → Child width r plens.old paths.old tlens.old trees.old order slot → going_of width result plens.new paths.new tlens.new trees.new order
-        ≡ unlinked_on (path_of plens.old paths.old slot) (going_of width r plens.old paths.old tlens.old trees.old order) }
-    ensures between { (order : List ℕ) → Child width r plens.old paths.old tlens.old trees.old order slot → Between result order [] }
-    ensures laid { Laid width result plens.new paths.new tlens.new trees.new }
-    ensures same { SameWrite r result }
+pub fn unlink(s: &mut Store<'_>, width: usize, slot: usize)
+    requires { LaidIn width s.old × (width ≤ 64) × ((order : List ℕ) × ChildIn width s.old order slot) }
+    ensures going { (order : List ℕ) → ChildIn width s.old order slot → going_in width s.new order
+        ≡ unlinked_on (path_in_slot s.old slot) (going_in width s.old order) }
+    ensures between { (order : List ℕ) → ChildIn width s.old order slot → Between s.new.ed order [] }
+    ensures laid { LaidIn width s.new }
+    ensures same { SameWrite s.old.ed s.new.ed }
+    ensures lent { SameLent s.old s.new }
 {
-    let one = remove_entry(r, plens, paths, tlens, trees, width, slot);
-    store_taken::drop_taken(one, plens, paths, tlens, trees, width, slot)
+    remove_entry(s, width, slot);
+    store_taken::drop_taken(s, width, slot);
 }
 
 // Sets the id of the entry of the tree in hand in its parent.
-fn set_entry(
-    r: Record,
-    plens: &[u64],
-    paths: &[u8],
-    tlens: &mut [u64],
-    trees: &mut [u8],
-    width: usize,
-    slot: usize,
-    id: &[u8],
-) -> Record
-    requires { Laid width r plens.now paths.now tlens.old trees.old × (width ≤ 64) × ((order : List ℕ) × Child width r plens.now paths.now tlens.old trees.old order slot)
-        × (length id.now ≡ width) × (fits (view_of width r plens.now paths.now tlens.old trees.old) ≡ true) }
-    ensures going { (order : List ℕ) → Child width r plens.now paths.now tlens.old trees.old order slot → going_of width result plens.now paths.now tlens.new trees.new order
-        ≡ linked_on id.now (path_of plens.now paths.now slot) (going_of width r plens.now paths.now tlens.old trees.old order) }
-    ensures between { (order : List ℕ) → Child width r plens.now paths.now tlens.old trees.old order slot → Between result order (slot ∷ []) }
-    ensures laid { Laid width result plens.now paths.now tlens.new trees.new }
-    ensures same { SameWrite r result }
+fn set_entry(s: &mut Store<'_>, width: usize, slot: usize, id: &[u8])
+    requires { LaidIn width s.old × (width ≤ 64) × ((order : List ℕ) × ChildIn width s.old order slot)
+        × (length id.now ≡ width) × (fits (view_in width s.old) ≡ true) }
+    ensures going { (order : List ℕ) → ChildIn width s.old order slot → going_in width s.new order
+        ≡ linked_on id.now (path_in_slot s.old slot) (going_in width s.old order) }
+    ensures between { (order : List ℕ) → ChildIn width s.old order slot → Between s.new.ed order (slot ∷ []) }
+    ensures laid { LaidIn width s.new }
+    ensures same { SameWrite s.old.ed s.new.ed }
+    ensures lent { SameLent s.old s.new }
+    ensures keys { SameKeys s.old s.new }
 {
-    let k = parent_of(r, plens, paths, slot);
-    let name = names::path::filename(store_slots::path_in(r, plens, paths, slot));
-    store_entries::set(
-        r,
-        plens,
-        paths,
-        tlens,
-        trees,
-        width,
-        k,
-        EntryKind::Tree,
+    let mut name = [0u8; NAME];
+    let n = put_name(&mut name, s.view(), slot);
+    let parent = parent_of(s.view(), slot);
+    let entry = Entry {
+        kind: EntryKind::Tree,
+        name: &name[..n],
         id,
-        name,
-    )
+    };
+    store_entries::set(s, width, parent, entry);
 }
 
 // A finished tree's entry in its parent has this id now, and the tree itself goes.
-pub fn link(
-    r: Record,
-    plens: &mut [u64],
-    paths: &mut [u8],
-    tlens: &mut [u64],
-    trees: &mut [u8],
-    width: usize,
-    slot: usize,
-    id: &[u8],
-) -> Record
-    requires { Laid width r plens.old paths.old tlens.old trees.old × (width ≤ 64) × ((order : List ℕ) × Child width r plens.old paths.old tlens.old trees.old order slot)
-        × (length id.now ≡ width) × (fits (view_of width r plens.old paths.old tlens.old trees.old) ≡ true) }
-    ensures going { (order : List ℕ) → Child width r plens.old paths.old tlens.old trees.old order slot → going_of width result plens.new paths.new tlens.new trees.new order
-        ≡ linked_on id.now (path_of plens.old paths.old slot) (going_of width r plens.old paths.old tlens.old trees.old order) }
-    ensures between { (order : List ℕ) → Child width r plens.old paths.old tlens.old trees.old order slot → Between result order [] }
-    ensures laid { Laid width result plens.new paths.new tlens.new trees.new }
-    ensures same { SameWrite r result }
+pub fn link(s: &mut Store<'_>, width: usize, slot: usize, id: &[u8])
+    requires { LaidIn width s.old × (width ≤ 64) × ((order : List ℕ) × ChildIn width s.old order slot)
+        × (length id.now ≡ width) × (fits (view_in width s.old) ≡ true) }
+    ensures going { (order : List ℕ) → ChildIn width s.old order slot → going_in width s.new order
+        ≡ linked_on id.now (path_in_slot s.old slot) (going_in width s.old order) }
+    ensures between { (order : List ℕ) → ChildIn width s.old order slot → Between s.new.ed order [] }
+    ensures laid { LaidIn width s.new }
+    ensures same { SameWrite s.old.ed s.new.ed }
+    ensures lent { SameLent s.old s.new }
 {
-    let one = set_entry(r, plens, paths, tlens, trees, width, slot, id);
-    store_taken::drop_taken(one, plens, paths, tlens, trees, width, slot)
+    set_entry(s, width, slot, id);
+    store_taken::drop_taken(s, width, slot);
 }

@@ -5,77 +5,51 @@ ghost use Rattle.store_slots.specs.View.{Laid, held_at, stacked_of};
 ghost use Rattle.store_taken.specs.Taken.{going_of, Between, SameSlots};
 ghost use Rattle.editor_write_steps.specs.Writes.{Brief, turned, hand_of};
 
-use store_slots::Record;
+use store_slots::Store;
 
-// A tree that was taken, whether it is to be finished, and the record then.
+// The slot of a tree that was taken: it is to be finished, or it was set aside.
 #[derive(Clone, Copy)]
-pub struct Picked {
-    pub finish: bool,
-    pub slot: usize,
-    pub editor: Record,
+pub enum Picked {
+    Finish(usize),
+    Aside(usize),
 }
 
 // Takes the top of the stack: with cached trees under it, they are stacked and it is set aside; else it is to be finished.
-fn take_top(
-    r: Record,
-    plens: &[u64],
-    paths: &[u8],
-    tlens: &[u64],
-    trees: &[u8],
-    order: &mut [u64],
-    width: usize,
-) -> Picked
-    requires { Laid width r plens.now paths.now tlens.now trees.now × (width ≤ 64) × Between r order.old [] × (0 < r.stacked)
-        × All Brief (stacked_of width r plens.now paths.now tlens.now trees.now order.old) }
-    ensures turn { record { finish = result.finish; hand = held_at width plens.now paths.now tlens.now trees.now result.slot; rest = going_of width result.editor plens.now paths.now tlens.now trees.now order.new }
-        ≡ turned (going_of width r plens.now paths.now tlens.now trees.now order.old) }
-    ensures between { Between result.editor order.new (hand_of result.finish result.slot) }
-    ensures same { SameSlots r result.editor × (result.editor.«open» ≡ r.«open») }
+fn take_top(s: &mut Store<'_>, order: &mut [u64], width: usize) -> Picked
+    requires { LaidIn width s.old × (width ≤ 64) × Between s.old.ed order.old [] × (0 < s.old.ed.stacked)
+        × All Brief (stacked_of width s.old.ed s.old.plens.now s.old.paths.now s.old.tlens.now s.old.trees.now order.old) }
+    ensures turn { record { finish = is_finish result; hand = held_in_slot width s.old (slot_in result); rest = going_of width s.new.ed s.old.plens.now s.old.paths.now s.old.tlens.now s.old.trees.now order.new }
+        ≡ turned (going_in width s.old order.old) }
+    ensures between { Between s.new.ed order.new (hand_of (is_finish result) (slot_in result)) }
+    ensures same { SameSlots s.old.ed s.new.ed × (s.new.ed.«open» ≡ s.old.ed.«open») }
+    ensures lent { SameLent s.old s.new }
+    ensures keys { SameKeys s.old s.new }
 {
-    let top = store_taken::pop(r, order);
-    let slot = top.slot;
-    let one = top.editor;
-    let left = one.stacked;
-    let two = crate::scan::scan(one, plens, paths, tlens, trees, order, width, slot);
-    if two.stacked == left {
-        return Picked {
-            finish: true,
-            slot,
-            editor: two,
-        };
-    }
-    Picked {
-        finish: false,
-        slot,
-        editor: store_taken::set_aside(two, order, slot),
+    let slot = store_taken::pop(&mut s.ed, &*order);
+    let left = s.ed.stacked;
+    s.ed = crate::scan::scan(s.view(), order, width, slot);
+    if s.ed.stacked == left {
+        Picked::Finish(slot)
+    } else {
+        store_taken::set_aside(&mut s.ed, order, slot);
+        Picked::Aside(slot)
     }
 }
 
 // Takes the next tree: the top of the stack, or, when it is empty, the latest set aside, which is to be finished.
-pub fn pick(
-    r: Record,
-    plens: &[u64],
-    paths: &[u8],
-    tlens: &[u64],
-    trees: &[u8],
-    order: &mut [u64],
-    width: usize,
-) -> Picked
-    requires { Laid width r plens.now paths.now tlens.now trees.now × (width ≤ 64) × Between r order.old [] × (0 < r.aside + r.stacked)
-        × All Brief (stacked_of width r plens.now paths.now tlens.now trees.now order.old) }
-    ensures turn { record { finish = result.finish; hand = held_at width plens.now paths.now tlens.now trees.now result.slot; rest = going_of width result.editor plens.now paths.now tlens.now trees.now order.new }
-        ≡ turned (going_of width r plens.now paths.now tlens.now trees.now order.old) }
-    ensures between { Between result.editor order.new (hand_of result.finish result.slot) }
-    ensures same { SameSlots r result.editor × (result.editor.«open» ≡ r.«open») }
+pub fn pick(s: &mut Store<'_>, order: &mut [u64], width: usize) -> Picked
+    requires { LaidIn width s.old × (width ≤ 64) × Between s.old.ed order.old [] × (0 < s.old.ed.aside + s.old.ed.stacked)
+        × All Brief (stacked_of width s.old.ed s.old.plens.now s.old.paths.now s.old.tlens.now s.old.trees.now order.old) }
+    ensures turn { record { finish = is_finish result; hand = held_in_slot width s.old (slot_in result); rest = going_of width s.new.ed s.old.plens.now s.old.paths.now s.old.tlens.now s.old.trees.now order.new }
+        ≡ turned (going_in width s.old order.old) }
+    ensures between { Between s.new.ed order.new (hand_of (is_finish result) (slot_in result)) }
+    ensures same { SameSlots s.old.ed s.new.ed × (s.new.ed.«open» ≡ s.old.ed.«open») }
+    ensures lent { SameLent s.old s.new }
+    ensures keys { SameKeys s.old s.new }
 {
-    if r.stacked == 0 {
-        let last = store_taken::latest(r, order);
-        let one = last.editor;
-        return Picked {
-            finish: true,
-            slot: last.slot,
-            editor: one,
-        };
+    if s.ed.stacked == 0 {
+        Picked::Finish(store_taken::latest(&mut s.ed, &*order))
+    } else {
+        take_top(s, order, width)
     }
-    take_top(r, plens, paths, tlens, trees, order, width)
 }

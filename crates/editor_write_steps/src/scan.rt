@@ -16,92 +16,65 @@ use names::limits::FULL;
 use store_slots::{Found, Record};
 
 // Takes the cached tree at a path off the cache and stacks it, if the path is a tree entry's and one is cached there.
-fn take_kid(
-    r: Record,
-    plens: &[u64],
-    paths: &[u8],
-    order: &mut [u64],
-    path: &[u8],
-    is_tree: bool,
-) -> Record
-    requires { Sound plens.now paths.now r.paths × (length plens.now ≡ 64) × ((hand : List ℕ) × Between r order.old hand) }
-    ensures going { (w : ℕ) (tlens trees : List ℕ) → Laid w r plens.now paths.now tlens trees →
-        going_of w result plens.now paths.now tlens trees order.new
-        ≡ kid_on (cond is_tree (find at path.now (cached_of w r plens.now paths.now tlens trees)) none) (going_of w r plens.now paths.now tlens trees order.old) }
-    ensures between { (hand : List ℕ) → Between r order.old hand → Between result order.new hand }
-    ensures same { Stacks r result }
+fn take_kid(v: View<'_>, order: &mut [u64], path: &[u8], is_tree: bool) -> Record
+    requires { Sound v.plens.now v.paths.now v.ed.paths × (length v.plens.now ≡ 64) × ((hand : List ℕ) × Between v.ed order.old hand) }
+    ensures going { (w : ℕ) (tlens trees : List ℕ) → Laid w v.entry.ed v.entry.plens.now v.entry.paths.now tlens trees →
+        going_of w result v.entry.plens.now v.entry.paths.now tlens trees order.new
+        ≡ kid_on (cond is_tree (find at path.now (cached_of w v.entry.ed v.entry.plens.now v.entry.paths.now tlens trees)) none) (going_of w v.entry.ed v.entry.plens.now v.entry.paths.now tlens trees order.old) }
+    ensures between { (hand : List ℕ) → Between v.entry.ed order.old hand → Between result order.new hand }
+    ensures same { Stacks v.entry.ed result }
 {
-    if !is_tree {
-        return r;
+    let mut ed = v.ed;
+    if is_tree {
+        if let Some(k) = v.find(path) {
+            store_taken::stack(&mut ed, order, k);
+        }
     }
-    match store_slots::find(r, plens, paths, path) {
-        Found::At(k) => store_taken::stack(r, order, k),
-        Found::Nothing => r,
-    }
+    ed
 }
 
-// Writes the name of the entry i, which starts at `at`, behind the n bytes that the buffer has, and says how long the whole is.
-fn put_name(buf: &mut [u8; FULL], n: usize, tree: &[u8], width: usize, at: usize, i: usize) -> usize
-    requires { Run width tree.now × (at ≡ offset width tree.now i) × (i < length (unpack width tree.now)) × (n ≤ 1025) }
+// Writes the name of an entry behind the n bytes that the buffer has, and says how long the whole is.
+fn put_name(buf: &mut [u8; FULL], n: usize, name: &[u8]) -> usize
+    requires { (length name.now ≤ 255) × (n ≤ 1025) }
     ensures { (result ≤ 1280) × (length buf.new ≡ 1280) × ((p : Bytes) → take n buf.old ≡ lead p →
-        (take result buf.new ≡ join p (entry_at width tree.now i).name) × (take n buf.new ≡ lead p)) }
+        (take result buf.new ≡ join p name.now) × (take n buf.new ≡ lead p)) }
 {
-    let name = names_compact::compact::name_at(tree, width, at, i);
     names::write::put(buf, n, name)
 }
 
 // Scans the entries of the tree at a path.
-fn scan_entries(
-    r: Record,
-    plens: &[u64],
-    paths: &[u8],
-    order: &mut [u64],
-    prefix: &[u8],
-    tree: &[u8],
-    width: usize,
-) -> Record
-    requires { Sound plens.now paths.now r.paths × (length plens.now ≡ 64) × ((hand : List ℕ) × Between r order.old hand)
+fn scan_entries(v: View<'_>, order: &mut [u64], prefix: &[u8], tree: Tree<'_>) -> Record
+    requires { Sound v.plens.now v.paths.now v.ed.paths × (length v.plens.now ≡ 64) × ((hand : List ℕ) × Between v.ed order.old hand)
         × (length prefix.now ≤ 1024) × Run width tree.now × (width ≤ 64) }
-    ensures going { (tlens trees : List ℕ) → Laid width r plens.now paths.now tlens trees →
-        going_of width result plens.now paths.now tlens trees order.new
-        ≡ scanned_on prefix.now (unpack width tree.now) (going_of width r plens.now paths.now tlens trees order.old) }
-    ensures between { (hand : List ℕ) → Between r order.old hand → Between result order.new hand }
-    ensures same { Stacks r result }
+    ensures going { (tlens trees : List ℕ) → Laid width v.entry.ed v.entry.plens.now v.entry.paths.now tlens trees →
+        going_of width result v.entry.plens.now v.entry.paths.now tlens trees order.new
+        ≡ scanned_on prefix.now (unpack width tree.now) (going_of width v.entry.ed v.entry.plens.now v.entry.paths.now tlens trees order.old) }
+    ensures between { (hand : List ℕ) → Between v.entry.ed order.old hand → Between result order.new hand }
+    ensures same { Stacks v.entry.ed result }
 {
     let mut buf = [0u8; FULL];
     let n = names::full::put_prefix(&mut buf, prefix);
-    let mut ed = r;
-    let mut at = 0;
-    let mut i = 0;
-    while at < tree.len() {
-        let e = put_name(&mut buf, n, tree, width, at, i);
-        let is_tree = names_compact::compact::kind_at(tree, width, at, i) == 0;
-        ed = take_kid(ed, plens, paths, order, &buf[..e], is_tree);
-        at = names_compact::compact::skip(tree, width, at, i, 1);
-        i += 1;
+    let mut ed = v.ed;
+    for entry in tree.entries() {
+        let end = put_name(&mut buf, n, entry.name);
+        let now = View { ed, ..v };
+        ed = take_kid(now, order, &buf[..end], entry.kind.is_tree());
     }
     ed
 }
 
 // Scans the tree in hand.
-pub fn scan(
-    r: Record,
-    plens: &[u64],
-    paths: &[u8],
-    tlens: &[u64],
-    trees: &[u8],
-    order: &mut [u64],
-    width: usize,
-    slot: usize,
-) -> Record
-    requires { Laid width r plens.now paths.now tlens.now trees.now × (width ≤ 64) × Between r order.old (slot ∷ []) × (length (path_of plens.now paths.now slot) ≤ 1024) }
-    ensures going { going_of width result plens.now paths.now tlens.now trees.now order.new
-        ≡ scanned_on (held_at width plens.now paths.now tlens.now trees.now slot).path (held_at width plens.now paths.now tlens.now trees.now slot).held
-        (going_of width r plens.now paths.now tlens.now trees.now order.old) }
+pub fn scan(v: View<'_>, order: &mut [u64], width: usize, slot: usize) -> Record
+    requires { LaidSeen width v × (width ≤ 64) × Between v.ed order.old (slot ∷ []) × (length (path_of v.plens.now v.paths.now slot) ≤ 1024) }
+    ensures going { going_of width result v.entry.plens.now v.entry.paths.now v.entry.tlens.now v.entry.trees.now order.new
+        ≡ scanned_on (held_at width v.entry.plens.now v.entry.paths.now v.entry.tlens.now v.entry.trees.now slot).path (held_at width v.entry.plens.now v.entry.paths.now v.entry.tlens.now v.entry.trees.now slot).held
+        (going_of width v.entry.ed v.entry.plens.now v.entry.paths.now v.entry.tlens.now v.entry.trees.now order.old) }
     ensures between { Between result order.new (slot ∷ []) }
-    ensures same { Stacks r result }
+    ensures same { Stacks v.entry.ed result }
 {
-    let prefix = store_slots::path_in(r, plens, paths, slot);
-    let tree = store_slots::tree_in(r, tlens, trees, slot);
-    scan_entries(r, plens, paths, order, prefix, tree, width)
+    let tree = Tree {
+        bytes: v.tree_in(slot),
+        width,
+    };
+    scan_entries(v, order, v.path_in(slot), tree)
 }

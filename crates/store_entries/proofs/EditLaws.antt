@@ -18,6 +18,7 @@ use Rattle.model.proofs.LimitLaws.{limits}
 use Rattle.model.proofs.SwapShared.{well_rising}
 use Rattle.model.proofs.WellFormedLaws.{well_with}
 use Rattle.model.specs.Search.{searched}
+use Rattle.std.specs.Prelude.{Result, Ok, Err}
 use Rattle.store_runs.specs.Digits.{digits}
 use Rattle.store_runs.specs.Moves.{inserted, removed}
 use Rattle.store_runs.specs.Runs.{cut, with_run, run_of, Sound}
@@ -33,7 +34,7 @@ use Rattle.store_slots.proofs.Relaid.{others_with, run_in, with_here, well_unpac
 use Rattle.store_slots.proofs.Changes.{run_length}
 use Rattle.store_slots.proofs.Counts.{trees_is}
 use Rattle.store_entries.specs.Entries.{Fresh, Kept, Edited}
-use Rattle.store_entries.proofs.PlaceLaws.{well_del, missing, not_found, inside, found_entry, marked, bytes_without, one_fewer, names_fewer, bytes_over, as_many, as_long, name_is, set_over, bytes_with, place_in, one_more, names_more, well_put, fresh_then}
+use Rattle.store_entries.proofs.PlaceLaws.{well_del, missing, not_missing, inside, found_entry, marked, bytes_without, one_fewer, names_fewer, bytes_over, as_many, as_long, name_is, set_over, bytes_with, place_in, one_more, names_more, well_put, fresh_then}
 
 pub all_kept : (r : Record) → Kept r r
 all_kept r = record { free = refl; hidden = refl; paths = refl; write = record { «open» = refl; aside = refl; stacked = refl; asked = refl } }
@@ -47,7 +48,7 @@ kept_twice a b =
       write = record { «open» = b.write.«open» ∙ a.write.«open»; aside = b.write.aside ∙ a.write.aside; stacked = b.write.stacked ∙ a.write.stacked; asked = b.write.asked ∙ a.write.asked };
     }
 
-module _ (w : ℕ) (r : Record) (plens paths tlens trees : List ℕ) (L : Laid w r plens paths tlens trees) (k : ℕ) (U : Used r k) where
+module _ {w : ℕ} {r : Record} {plens paths tlens trees : List ℕ} (L : Laid w r plens paths tlens trees) {k : ℕ} (U : Used r k) where
   abbrev B : Bytes
   B = get_or (cut tlens trees) k []
 
@@ -92,84 +93,99 @@ module _ (w : ℕ) (r : Record) (plens paths tlens trees : List ℕ) (L : Laid w
         others = record { run = λ j n. refl };
       }
 
-  -- the slot's tree rises, and without a key that it has not it is the tree
-  pub rising_run : rising key (unpack w (run_of tlens trees k)) ≡ true
-  rising_run = ap (λ (z : Bytes). rising key (unpack w z)) (sym B_is) ∙ ris
+  -- the run at hand, in which a search is made
+  module _ {z : Bytes} (here : z ≡ run_of tlens trees k) where
+    z_is : z ≡ B
+    z_is = here ∙ sym B_is
 
-  pub absent : (kk : Bytes) → find key kk (unpack w (run_of tlens trees k)) ≡ none → Edited w r plens paths tlens trees k (del key kk t) r tlens trees
-  absent kk e = unchanged (del key kk t) (del_absent key kk t (ap (λ (z : Bytes). find key kk (unpack w z)) B_is ∙ e))
+    pub good_run : Run w z
+    good_run = subst (Run w) (sym z_is) run
 
-  -- a search in the slot's run
-  module _ (kk : Bytes) (p : Place) (T : Tells w (run_of tlens trees k) (searched key kk (unpack w (run_of tlens trees k))) p) where
-    T' : Tells w B (searched key kk (unpack w B)) p
-    T' = subst (λ (z : Bytes). Tells w z (searched key kk (unpack w z)) p) (sym B_is) T
+    pub rising_run : rising key (unpack w z) ≡ true
+    rising_run = ap (λ (l : Bytes). rising key (unpack w l)) z_is ∙ ris
 
-    pub not_there : p.found ≡ false → Edited w r plens paths tlens trees k (del key kk t) r tlens trees
-    not_there e = unchanged (del key kk t) (del_absent key kk t (missing w B kk run ris p T' e))
+    -- without a key that it has not the tree is as it was
+    pub absent : (kk : Bytes) → find key kk (unpack w z) ≡ none → Edited w r plens paths tlens trees k (del key kk t) r tlens trees
+    absent kk n = unchanged (del key kk t) (del_absent key kk t (ap (λ (l : Bytes). find key kk (unpack w l)) (sym z_is) ∙ n))
 
-    pub not_yet : find key kk t ≡ none → p.found ≡ false
-    not_yet e = not_found w B kk run ris p T' e
+    pub missed : (kk : Bytes) {p : Place} → Tells w z (searched key kk (unpack w z)) (Err p) → find key kk t ≡ none
+    missed kk {p = p} T = ap (λ (l : Bytes). find key kk (unpack w l)) (sym z_is) ∙ missing w z kk rising_run p T
 
-    module _ (e : p.found ≡ true) where
-      -- the entry that was found, where it lies
-      pub lies : p.at + 2 + w + get_or (run_of tlens trees k) (p.at + 1) 0 ≤ length (run_of tlens trees k)
-      lies = subst (λ (z : Bytes). p.at + 2 + w + get_or z (p.at + 1) 0 ≤ length z) B_is (marked w B kk run ris p T' e).room
+    pub not_found : (kk : Bytes) {p : Place} → find key kk t ≡ none → Tells w z (searched key kk (unpack w z)) (Ok p) → ⊥
+    not_found kk {p = p} n T = not_missing w z kk good_run rising_run p T (ap (λ (l : Bytes). find key kk (unpack w l)) z_is ∙ n)
 
-      pub in_run : p.at + (2 + w + get_or (run_of tlens trees k) (p.at + 1) 0) ≤ get_or tlens k 0
-      in_run = omega (arith, lies, ap length B_is, run_length tlens trees r.trees k L.trees_sound (omega (arith, L.tlens_64, U.low)))
+    -- what the search of an entry's key says, of the slot's run
+    pub told : {b : Bool} (name : Bytes) {a : Result Place Place} (m : Mode) → b ≡ is_tree m → Tells w z (searched key (as_kind b name) (unpack w z)) a
+        → Tells w (run_of tlens trees k) (searched key (as_kind (is_tree m) name) (unpack w (run_of tlens trees k))) a
+    told name {a = a} m eb T =
+        subst (λ (l : Bytes). Tells w l (searched key (as_kind (is_tree m) name) (unpack w l)) a) here
+        (subst (λ (x : Bool). Tells w z (searched key (as_kind x name) (unpack w z)) a) eb T)
 
-      -- the entry that was found, by its number
-      pub index_in : p.index < length (unpack w (run_of tlens trees k))
-      index_in = subst (λ (z : Bytes). p.index < length (unpack w z)) B_is (inside w B kk run ris p T' e)
+    pub told_back : (b : Bool) (name : Bytes) {a : Result Place Place} (m : Mode) → b ≡ is_tree m
+        → Tells w (run_of tlens trees k) (searched key (as_kind (is_tree m) name) (unpack w (run_of tlens trees k))) a → Tells w z (searched key (as_kind b name) (unpack w z)) a
+    told_back b name {a = a} m eb T =
+        subst (λ (l : Bytes). Tells w l (searched key (as_kind b name) (unpack w l)) a) (sym here)
+        (subst (λ (x : Bool). Tells w (run_of tlens trees k) (searched key (as_kind x name) (unpack w (run_of tlens trees k))) a) (sym eb) T)
 
-      pub name_long : length (entry_at w (run_of tlens trees k) p.index).name ≡ get_or (run_of tlens trees k) (p.at + 1) 0
-      name_long = subst (λ (z : Bytes). length (entry_at w z p.index).name ≡ get_or z (p.at + 1) 0) B_is (sym (marked w B kk run ris p T' e).word)
+    -- an entry that was found
+    module _ (kk : Bytes) {p : Place} (T : Tells w z (searched key kk (unpack w z)) (Ok p)) where
+      T' : Tells w B (searched key kk (unpack w B)) (Ok p)
+      T' = subst (λ (l : Bytes). Tells w l (searched key kk (unpack w l)) (Ok p)) z_is T
 
-      same_byte : (n : ℕ) → n ≡ get_or (run_of tlens trees k) (p.at + 1) 0 → n ≡ get_or B (p.at + 1) 0
-      same_byte n q = q ∙ ap (λ (z : Bytes). get_or z (p.at + 1) 0) (sym B_is)
+      -- by its number, and where it lies
+      pub index_in : p.index < length (unpack w z)
+      index_in = inside w z kk good_run rising_run p T
+
+      pub name_long : length (entry_at w z p.index).name ≡ get_or z (p.at + 1) 0
+      name_long = sym (marked w z kk good_run rising_run p T).word
+
+      same_name : length (entry_at w z p.index).name ≡ get_or B (p.at + 1) 0
+      same_name = name_long ∙ ap (λ (l : Bytes). get_or l (p.at + 1) 0) z_is
+
+      pub in_run : p.at + (2 + w + length (entry_at w z p.index).name) ≤ get_or tlens k 0
+      in_run = omega (arith, same_name, (marked w B kk run ris p T').room, run_length tlens trees r.trees k L.trees_sound (omega (arith, L.tlens_64, U.low)))
 
       pub some_entry : 1 ≤ r.entries
-      some_entry = omega (arith, one_fewer w B kk run ris p T' e, entries_in_lem w r plens paths tlens trees L k U.low U.used)
+      some_entry = omega (arith, one_fewer w B kk run ris p T', entries_in_lem w r plens paths tlens trees L k U.low U.used)
 
-      pub some_names : (n : ℕ) → n ≡ get_or (run_of tlens trees k) (p.at + 1) 0 → n ≤ r.names
-      some_names n q = omega (arith, same_byte n q, names_fewer w B kk run ris p T' e, names_in_lem w r plens paths tlens trees L k U.low U.used)
+      pub some_names : length (entry_at w z p.index).name ≤ r.names
+      some_names = omega (arith, same_name, names_fewer w B kk run ris p T', names_in_lem w r plens paths tlens trees L k U.low U.used)
 
-      pub removing : (n : ℕ) → n ≡ get_or (run_of tlens trees k) (p.at + 1) 0 → (q : Record) (tlens' trees' : List ℕ) →
+      pub removing : (n : ℕ) → n ≡ length (entry_at w z p.index).name → (q : Record) (tlens' trees' : List ℕ) →
           cut tlens' trees' ≡ with_run k (λ (l : Bytes). removed l p.at (2 + w + n)) (cut tlens trees) → length tlens' ≡ length tlens → length trees' ≡ length trees → Sound tlens' trees' q.trees →
           Kept r q → q.entries ≡ r.entries - 1 → q.names ≡ r.names - n → Edited w r plens paths tlens trees k (del key kk t) q tlens' trees'
       removing n en q tlens' trees' c tl tb st same ee enn =
-          edited (del key kk t) (λ (l : Bytes). removed l p.at (2 + w + n)) q tlens' trees' (bytes_without w B kk run ris p T' e n (same_byte n en)) (well_del w kk t (L.well k U.low)) c same tl tb st
-          (omega (arith, ee, some_entry, one_fewer w B kk run ris p T' e)) (omega (arith, enn, some_names n en, same_byte n en, names_fewer w B kk run ris p T' e))
+          edited (del key kk t) (λ (l : Bytes). removed l p.at (2 + w + n)) q tlens' trees' (bytes_without w B kk run ris p T' n (en ∙ same_name)) (well_del w kk t (L.well k U.low)) c same tl tb st
+          (omega (arith, ee, some_entry, one_fewer w B kk run ris p T')) (omega (arith, enn, some_names, en, same_name, names_fewer w B kk run ris p T'))
 
   -- an entry set over the one of its key
-  module _ (m : Mode) (name id : Bytes) (li : length id ≡ w) (gn : good_name name ≡ true) (p : Place) (T : Tells w (run_of tlens trees k) (searched key (as_kind (is_tree m) name) (unpack w (run_of tlens trees k))) p) where
+  module _ (m : Mode) (name id : Bytes) (li : length id ≡ w) (gn : good_name name ≡ true) {p : Place} (T : Tells w (run_of tlens trees k) (searched key (as_kind (is_tree m) name) (unpack w (run_of tlens trees k))) (Ok p)) where
     abbrev new_one : Entry
     new_one = record { mode = m; name = name; id = id }
 
-    T₂ : Tells w B (searched key (as_kind (is_tree m) name) (unpack w B)) p
-    T₂ = subst (λ (z : Bytes). Tells w z (searched key (as_kind (is_tree m) name) (unpack w z)) p) (sym B_is) T
+    abbrev kn : Bytes
+    kn = as_kind (is_tree m) name
 
-    module _ (e : p.found ≡ true) where
-      name_there : name ≡ (entry_at w B p.index).name
-      name_there = name_is w m name id t gn (L.well k U.low) (entry_at w B p.index) (found_entry w B (as_kind (is_tree m) name) run ris p T₂ e)
+    T₂ : Tells w B (searched key kn (unpack w B)) (Ok p)
+    T₂ = subst (λ (l : Bytes). Tells w l (searched key kn (unpack w l)) (Ok p)) (sym B_is) T
 
-      over_is : put key new_one t ≡ with_entry new_one t
-      over_is = set_over w m name id t gn (L.well k U.low) (entry_at w B p.index) (found_entry w B (as_kind (is_tree m) name) run ris p T₂ e)
+    name_there : name ≡ (entry_at w B p.index).name
+    name_there = name_is w m name id t gn (L.well k U.low) (entry_at w B p.index) (found_entry w B kn run ris p T₂)
 
-      pub over_fits : p.at + length (packed new_one) ≤ get_or tlens k 0
-      over_fits =
-          let M = marked w B (as_kind (is_tree m) name) run ris p T₂ e in
-          omega (arith, M.room, M.word, ap length name_there, packed_length w new_one li, run_length tlens trees r.trees k L.trees_sound (omega (arith, L.tlens_64, U.low)))
+    over_is : put key new_one t ≡ with_entry new_one t
+    over_is = set_over w m name id t gn (L.well k U.low) (entry_at w B p.index) (found_entry w B kn run ris p T₂)
 
-      pub rewriting : (trees' : List ℕ) → cut tlens trees' ≡ with_run k (λ (l : Bytes). splice l p.at (packed new_one)) (cut tlens trees) → length trees' ≡ length trees →
-          Edited w r plens paths tlens trees k (with_entry new_one t) r tlens trees'
-      rewriting trees' c tb =
-          edited (with_entry new_one t) (λ (l : Bytes). splice l p.at (packed new_one)) r tlens trees' (bytes_over w B (as_kind (is_tree m) name) run ris p T₂ e new_one refl li name_there ∙ ap packed_all over_is)
-          (well_with w m name id t gn li (L.well k U.low)) c (all_kept r) refl tb (record { sum = L.trees_sound.sum; fits = omega (arith, L.trees_sound.fits, tb) })
-          (omega (arith, as_many w B (as_kind (is_tree m) name) run ris p T₂ e new_one refl, ap length over_is)) (omega (arith, as_long w B (as_kind (is_tree m) name) run ris p T₂ e new_one refl name_there, ap name_bytes over_is))
+    pub over_fits : p.at + length (packed new_one) ≤ get_or tlens k 0
+    over_fits =
+        let M = marked w B kn run ris p T₂ in
+        omega (arith, M.room, M.word, ap length name_there, packed_length w new_one li, run_length tlens trees r.trees k L.trees_sound (omega (arith, L.tlens_64, U.low)))
 
-    pub none_there : p.found ≡ false → find key (as_kind (is_tree m) name) t ≡ none
-    none_there e = missing w B (as_kind (is_tree m) name) run ris p T₂ e
+    pub rewriting : (trees' : List ℕ) → cut tlens trees' ≡ with_run k (λ (l : Bytes). splice l p.at (packed new_one)) (cut tlens trees) → length trees' ≡ length trees →
+        Edited w r plens paths tlens trees k (with_entry new_one t) r tlens trees'
+    rewriting trees' c tb =
+        edited (with_entry new_one t) (λ (l : Bytes). splice l p.at (packed new_one)) r tlens trees' (bytes_over w B kn run ris p T₂ new_one refl li name_there ∙ ap packed_all over_is)
+        (well_with w m name id t gn li (L.well k U.low)) c (all_kept r) refl tb (record { sum = L.trees_sound.sum; fits = omega (arith, L.trees_sound.fits, tb) })
+        (omega (arith, as_many w B kn run ris p T₂ new_one refl, ap length over_is)) (omega (arith, as_long w B kn run ris p T₂ new_one refl name_there, ap name_bytes over_is))
 
   -- room for an entry put in, from the limits of the view it makes
   module _ (t' : Tree) (f : fits (put at (held_as (path_of plens paths k) t') (view_of w r plens paths tlens trees)) ≡ true) where
@@ -196,32 +212,30 @@ module _ (w : ℕ) (r : Record) (plens paths tlens trees : List ℕ) (L : Laid w
         let d : (r.entries + 1) * (2 + w) ≡ r.entries * (2 + w) + 1 * (2 + w) = add-mul r.entries 1 (2 + w) in
         omega (arith, m, d, names_then, trees_is w r plens paths tlens trees L, L.trees_room)
 
-  module _ (m : Mode) (name id : Bytes) (li : length id ≡ w) (gn : good_name name ≡ true) (fr : Fresh name t) (b : Bool) (eb : b ≡ is_tree m) (p : Place)
-      (T : Tells w (run_of tlens trees k) (searched key (as_kind b name) (unpack w (run_of tlens trees k))) p) where
+  -- an entry put in at the place that the search of its key gave
+  module _ (m : Mode) (name id : Bytes) (li : length id ≡ w) (gn : good_name name ≡ true) (fr : Fresh name t) {p : Place}
+      (T : Tells w (run_of tlens trees k) (searched key (as_kind (is_tree m) name) (unpack w (run_of tlens trees k))) (Err p)) where
     abbrev e : Entry
     e = record { mode = m; name = name; id = id }
-
-    key_e : key e ≡ as_kind b name
-    key_e = ap (λ (x : Bool). as_kind x name) (sym eb)
 
     none_of : (x : Bool) → find key (as_kind x name) t ≡ none
     none_of true = fr.tree
     none_of false = fr.file
 
-    T'' : Tells w B (searched key (as_kind b name) (unpack w B)) p
-    T'' = subst (λ (z : Bytes). Tells w z (searched key (as_kind b name) (unpack w z)) p) (sym B_is) T
+    T'' : Tells w B (searched key (key e) (unpack w B)) (Err p)
+    T'' = subst (λ (l : Bytes). Tells w l (searched key (key e) (unpack w l)) (Err p)) (sym B_is) T
 
     wf : well_formed w (put key e t) ≡ true
     wf = well_put w m name id t gn li (L.well k U.low) (none_of (not (is_tree m)))
 
     more : length (put key e t) ≡ length t + 1
-    more = one_more w B (as_kind b name) run ris p T'' (none_of b) e key_e
+    more = one_more w B (key e) run ris p T'' e refl
 
     names_m : name_bytes (put key e t) ≡ name_bytes t + length name
-    names_m = names_more w B (as_kind b name) run ris p T'' (none_of b) e key_e
+    names_m = names_more w B (key e) run ris p T'' e refl
 
     pub place_fits : p.at ≤ get_or tlens k 0
-    place_fits = omega (arith, place_in w B (as_kind b name) run ris p T'' (none_of b) e key_e, run_length tlens trees r.trees k L.trees_sound (omega (arith, L.tlens_64, U.low)))
+    place_fits = omega (arith, place_in w B (key e) run ris p T'' e refl, run_length tlens trees r.trees k L.trees_sound (omega (arith, L.tlens_64, U.low)))
 
     module _ (f : fits (put at (held_as (path_of plens paths k) (put key e t)) (view_of w r plens paths tlens trees)) ≡ true) where
       pub insert_room : r.trees + (2 + w + length name) ≤ length trees
@@ -235,7 +249,7 @@ module _ (w : ℕ) (r : Record) (plens paths tlens trees : List ℕ) (L : Laid w
         Kept r q → q.entries ≡ r.entries + 1 → q.names ≡ r.names + length name → Edited w r plens paths tlens trees k (put key e t) q tlens' trees'
     inserting src se q tlens' trees' cc' tl tb st same ee en =
         edited (put key e t) (λ (l : Bytes). inserted l p.at src) q tlens' trees'
-        (ap (inserted B p.at) se ∙ bytes_with w B (as_kind b name) run ris p T'' (none_of b) e key_e) wf cc' same tl tb st
+        (ap (inserted B p.at) se ∙ bytes_with w B (key e) run ris p T'' e refl) wf cc' same tl tb st
         (omega (arith, ee, more)) (omega (arith, en, names_m))
 
 -- two edits of one slot, one after the other

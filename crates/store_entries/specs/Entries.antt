@@ -3,9 +3,13 @@ use Rattle.std.specs.Prelude.{◌≡◌, true, false, List, ℕ}
 use Rattle.std.proofs.Math.Option.{none}
 use Rattle.model.specs.Bytes.{Bytes}
 use Rattle.model.specs.Map.{find, put}
-use Rattle.model.specs.Tree.{Tree, key, as_kind}
-use Rattle.model.specs.Editor.{at}
+use Rattle.model.specs.Tree.{Entry, Tree, key, as_kind}
+use Rattle.model.specs.Editor.{at, fits}
+use Rattle.names.specs.Answers.{entry}
+use Rattle.names.specs.declared.write.Entry as W
 use Rattle.store_slots.specs.declared.Record.{Record}
+use Rattle.store_slots.specs.declared.Store.{Store}
+use Rattle.store_slots.specs.Stores.{SameKeys, SameLent, path_in_slot, view_in}
 use Rattle.store_slots.specs.View.{view_of, held_as, Laid, Used, Others, SameWrite, path_of, tree_of}
 
 -- no entry has the name, as a tree or otherwise
@@ -28,3 +32,19 @@ pub record Edited (w : ℕ) (r : Record) (plens paths tlens trees : List ℕ) (k
   pub used : Used q k
   pub kept : Kept r q
   pub others : Others tlens trees k tlens' trees'
+
+-- ---- in the code's own form
+
+-- the entry that is given
+abbrev pub written : W.Entry → Entry
+written e = entry e.kind e.name.now e.id.now
+
+-- with this tree in the slot k the limits are kept
+abbrev pub FitsWith : ℕ → Store → ℕ → Tree → Type 0
+FitsWith w s k t = fits (put at (held_as (path_in_slot s k) t) (view_in w s)) ≡ true
+
+-- the tree in the slot k of a store became t, and nothing else changed
+pub record EditedIn (w : ℕ) (s : Store) (k : ℕ) (t : Tree) (q : Store) : Type 0 where
+  pub edit : Edited w s.ed s.plens.now s.paths.now s.tlens.now s.trees.now k t q.ed q.tlens.now q.trees.now
+  pub keys : SameKeys s q
+  pub lent : SameLent s q

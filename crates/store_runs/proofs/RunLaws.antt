@@ -9,6 +9,8 @@ use borrow.Author.Tests.{eq-eqb, ne_eqb}
 use lib.Dec.{eqb}
 use lib.ListN.{length, take, drop, get_or, set, replicate, length-append, take-append-drop, length-drop}
 use lib.Seq.{set-get_or, take_at, drop_at, set_at, length-take-le, take-suc, drop-drop, take-append-le, drop-append-le, split_at}
+use Rattle.std.specs.List.{sum}
+use Rattle.std.proofs.lemmas.List.Sums.{sum_by-cons}
 use Rattle.names.specs.Splice.{splice}
 use Rattle.names.proofs.WriteLaws.{length_splice}
 use Rattle.store_runs.specs.Moves.{inserted, removed, over}
@@ -19,6 +21,16 @@ pub total_append : (a b : List ℕ) → total (a ++ b) ≡ total a + total b
 unfolding total
 total_append [] b = sym (zero-add (total b))
 total_append (n ∷ a) b = let h : total (a ++ b) ≡ total a + total b = total_append a b in omega arith
+
+-- the library's sum
+pub total_sum : (l : List ℕ) → total l ≡ sum l
+unfolding total
+total_sum [] = refl
+total_sum (n ∷ l) = ap (λ (m : ℕ). n + m) (total_sum l) ∙ sym (sum_by-cons (λ (x : ℕ). x) n l)
+
+-- a front's is at most the whole's
+pub total_front : (l : List ℕ) (k : ℕ) → total (take k l) ≤ total l
+total_front l k = omega (arith, ap total (take-append-drop k l), total_append (take k l) (drop k l))
 
 -- one length more, as a loop has it
 pub total_more : (l : List ℕ) (i : ℕ) → i < length l → total (take (i + 1) l) ≡ total (take i l) + get_or l i 0

@@ -1,19 +1,17 @@
 -- The first used slot with a path. Assumes nothing.
-use Rattle.std.specs.Prelude.{ℕ, ◌+◌, Bool, true, false, not, ◌&&◌, List, [], ◌∷◌, eqb}
+use Rattle.std.specs.Prelude.{Option, Some, None, ℕ, ◌+◌, Bool, true, false, not, ◌&&◌, List, [], ◌∷◌, eqb}
 use Rattle.model.specs.Bytes.{same}
-use Rattle.store_runs.specs.declared.runs.Found.{Found}
-use Rattle.store_runs.specs.declared.runs.Found.TheVariants.{At, Nothing}
 
 -- a slot with the digit d of the free map and the path r is used and at the path p
 abbrev pub hit : ℕ → List ℕ → List ℕ → Bool
 hit d r p = not (eqb d 1) && same p r
 
-abbrev pub pick : Bool → Found → Found → Found
+abbrev pub pick : Bool → Option ℕ → Option ℕ → Option ℕ
 pick true a b = a
 pick false a b = b
 
 -- the first slot from i on that is used and at the path p
-unfoldable pub find_from : ℕ → List ℕ → List (List ℕ) → List ℕ → Found
-find_from i [] rs p = Nothing
-find_from i (d ∷ ds) [] p = Nothing
-find_from i (d ∷ ds) (r ∷ rs) p = pick (hit d r p) (At i) (find_from (i + 1) ds rs p)
+unfoldable pub find_from : ℕ → List ℕ → List (List ℕ) → List ℕ → Option ℕ
+find_from i [] rs p = None
+find_from i (d ∷ ds) [] p = None
+find_from i (d ∷ ds) (r ∷ rs) p = pick (hit d r p) (Some i) (find_from (i + 1) ds rs p)

@@ -7,14 +7,15 @@ ghost use Rattle.store_runs.specs.Runs.{total};
 pub fn count(map: u64) -> usize
     ensures { result ≡ total (digits 64 map) }
 {
-    u64::count_ones(map) as usize
+    map.count_ones() as usize
 }
 
 // The first slot that is set, or 64.
+// Stays: as u64::trailing_zeros has it; the one caller knows that a slot is free, and would have to rule out None.
 pub fn first(map: u64) -> usize
     ensures { result ≡ first_set (digits 64 map) }
 {
-    u64::trailing_zeros(map) as usize
+    map.trailing_zeros() as usize
 }
 
 pub fn is_set(map: u64, slot: usize) -> bool

@@ -3,33 +3,13 @@ ghost use Rattle.std.specs.Prelude.{◌≡◌, ◌+◌, ◌-◌, ◌≤◌, leng
 ghost use Rattle.names.specs.Splice.{splice};
 ghost use Rattle.store_runs.specs.Moves.{part, inserted, removed, over};
 
-// Moves s[at..used] up by n.
-pub fn shift_up(s: &mut [u8], at: usize, used: usize, n: usize)
-    requires { (at ≤ used) × (used + n ≤ length s.old) }
-    ensures { s.new ≡ splice s.old (at + n) (part s.old at (used - at)) }
+// Moves s[from..end] to where it stands from `to` on.
+pub fn shift(s: &mut [u8], from: usize, end: usize, to: usize)
+    requires { (from ≤ end) × (end ≤ length s.old) × (to + (end - from) ≤ length s.old) }
+    ensures { s.new ≡ splice s.old to (part s.old from (end - from)) }
 {
-    if n == 0 {
-        return;
-    }
-    let mut k = used;
-    while at < k {
-        k -= 1;
-        s[k + n] = s[k];
-    }
-}
-
-// Moves s[at + n..used] down by n.
-pub fn shift_down(s: &mut [u8], at: usize, used: usize, n: usize)
-    requires { (at + n ≤ used) × (used ≤ length s.old) }
-    ensures { s.new ≡ splice s.old at (part s.old (at + n) (used - (at + n))) }
-{
-    if n == 0 {
-        return;
-    }
-    let mut k = at + n;
-    while k < used {
-        s[k - n] = s[k];
-        k += 1;
+    if from != to {
+        s.copy_within(from..end, to);
     }
 }
 
@@ -38,7 +18,8 @@ pub fn insert(s: &mut [u8], at: usize, used: usize, src: &[u8])
     requires { (at ≤ used) × (used + length src.now ≤ length s.old) }
     ensures { s.new ≡ over s.old (inserted (take used s.old) at src.now) }
 {
-    shift_up(s, at, used, src.len());
+    let to = at + src.len();
+    shift(s, at, used, to);
     names::write::put(s, at, src);
 }
 
@@ -47,5 +28,6 @@ pub fn remove(s: &mut [u8], at: usize, used: usize, n: usize)
     requires { (at + n ≤ used) × (used ≤ length s.old) }
     ensures { s.new ≡ over s.old (removed (take used s.old) at n) }
 {
-    shift_down(s, at, used, n);
+    let from = at + n;
+    shift(s, from, used, at);
 }

@@ -5,20 +5,13 @@ ghost use Rattle.store_runs.specs.Runs.{total, cut, run_of, with_run, Sound};
 ghost use Rattle.store_runs.specs.Find.{hit, find_from};
 ghost use Rattle.store_runs.specs.Digits.{digits};
 
-use names::limits::SLOTS;
-
 // Where the run k starts.
 pub fn start(lens: &[u64], k: usize) -> usize
     requires { (k ≤ length lens.now) × (total lens.now < 2 ^ 63) }
     ensures { result ≡ total (take k lens.now) }
 {
-    let mut i = 0;
-    let mut sum: usize = 0;
-    while i < k {
-        sum += lens[i] as usize;
-        i += 1;
-    }
-    sum
+    let sum: u64 = lens[..k].iter().sum();
+    sum as usize
 }
 
 // The run k, as a part of the caller's bytes.
@@ -69,55 +62,41 @@ pub fn remove(
     used - n
 }
 
-#[derive(Clone, Copy)]
-pub enum Found {
-    At(usize),
-    Nothing,
-}
-
 // Whether the slot k is used and at the path: its own path is the n bytes from a on.
 pub fn is_at(free: u64, bytes: &[u8], k: usize, a: usize, n: usize, path: &[u8]) -> bool
     requires { (k < 64) × (a + n ≤ length bytes.now) }
     ensures { result ≡ hit (get_or (digits 64 free) k 0) (part bytes.now a n) path.now }
 {
     let e = a + n;
-    if !names::order::same_bytes(path, &bytes[a..e]) {
-        return false;
-    }
-    !crate::bits::is_set(free, k)
+    names::order::same_bytes(path, &bytes[a..e]) && !crate::bits::is_set(free, k)
 }
 
 // The first slot that is used and at the path.
-pub fn find(free: u64, lens: &[u64], bytes: &[u8], used: usize, path: &[u8]) -> Found
+pub fn find(free: u64, lens: &[u64], bytes: &[u8], used: usize, path: &[u8]) -> Option<usize>
     requires { Sound lens.now bytes.now used × (length lens.now ≡ 64) }
     ensures { result ≡ find_from 0 (digits 64 free) (cut lens.now bytes.now) path.now }
 {
-    let mut i = 0;
     let mut a: usize = 0;
-    while i < SLOTS {
-        let n = lens[i] as usize;
-        if is_at(free, bytes, i, a, n, path) {
-            return Found::At(i);
+    for (k, len) in lens.iter().enumerate() {
+        let n = *len as usize;
+        if is_at(free, bytes, k, a, n, path) {
+            return Some(k);
         }
         a += n;
-        i += 1;
     }
-    Found::Nothing
+    None
 }
 
 // Whether the lengths add up to `used`.
 pub fn sum_is(lens: &[u64], used: usize) -> bool
     ensures { result ≡ eqb (total lens.now) used }
 {
-    let mut left = used;
-    let mut i = 0;
-    while i < lens.len() {
-        let n = lens[i] as usize;
-        if n > left {
+    let mut left = used as u64;
+    for n in lens {
+        let Some(rest) = left.checked_sub(*n) else {
             return false;
-        }
-        left -= n;
-        i += 1;
+        };
+        left = rest;
     }
     left == 0
 }
@@ -126,9 +105,5 @@ pub fn sum_is(lens: &[u64], used: usize) -> bool
 pub fn clear(lens: &mut [u64])
     ensures { lens.new ≡ replicate (length lens.old) 0 }
 {
-    let mut i = 0;
-    while i < lens.len() {
-        lens[i] = 0;
-        i += 1;
-    }
+    lens.fill(0);
 }

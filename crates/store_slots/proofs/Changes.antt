@@ -64,6 +64,13 @@ module _ (w : ℕ) (r : Record) (plens paths tlens trees : List ℕ) (L : Laid w
       sym (run_length tlens trees r.trees k L.trees_sound (omega (arith, L.tlens_64))) ∙ ap length (L.packed k h)
       ∙ packed_room w (tree_of w tlens trees k) (wide_good w (tree_of w tlens trees k) (well_entries w (tree_of w tlens trees k) (L.well k h)))
 
+  -- the tree of a slot, counted in its run: as many entries, and the length of the run by them
+  pub counted : (k : ℕ) → k < 64 → (run : Bytes) (n : ℕ) → run ≡ run_of tlens trees k → n ≡ length (unpack w run) → n ≡ length (tree_of w tlens trees k)
+  counted k h run n e f = f ∙ ap (λ (x : Bytes). length (unpack w x)) e ∙ ap length (tree_run k h)
+
+  pub counted_size : (k : ℕ) → k < 64 → (run : Bytes) (n : ℕ) → run ≡ run_of tlens trees k → n ≡ length (unpack w run) → get_or tlens k 0 ≡ n * (2 + w) + name_bytes (tree_of w tlens trees k)
+  counted_size k h run n e f = tree_size k h ∙ ap (λ (x : ℕ). x * (2 + w) + name_bytes (tree_of w tlens trees k)) (sym (counted k h run n e f))
+
   -- a run is not longer than the slice
   pub run_fits : (k : ℕ) → k < 64 → get_or tlens k 0 ≤ 1024 * (2 + w) + 16384
   run_fits k h = omega (arith, total_within tlens k (omega (arith, L.tlens_64)), L.trees_sound.sum, L.trees_sound.fits, L.trees_room)

@@ -9,3 +9,4 @@ pub mod Relaid
 pub mod Slots
 pub mod StartLaws
 pub mod Where
+pub mod StoreLaws

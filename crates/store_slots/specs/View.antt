@@ -4,8 +4,7 @@ use Rattle.std.proofs.Math.Option.{Option, none, some}
 use Rattle.model.specs.Bytes.{Bytes, has}
 use Rattle.model.specs.Map.{find, put}
 use Rattle.model.specs.Tree.{Tree, among, distinct, well_formed}
-use Rattle.store_runs.specs.declared.runs.Found.{Found}
-use Rattle.store_runs.specs.declared.runs.Found.TheVariants.{At, Nothing}
+use Rattle.std.specs.Prelude.{Option as Found, Some, None}
 use Rattle.model.specs.Editor.{Format, Held, at, Cache, Start, from_root, from_cursor, Write, entry_count, name_count}
 use Rattle.model.specs.Editor.{Editor as Model}
 use Rattle.model.specs.Order.{All}
@@ -68,9 +67,9 @@ pub record Laid (w : ℕ) (r : Record) (plens paths tlens trees : List ℕ) : Ty
 -- ---- the slot of a path
 
 -- what a search for the slot of a path says
-abbrev pub SlotIs : ℕ → List ℕ → List Bytes → List Bytes → Bytes → Found → Type 0
-SlotIs w ds ps bs p (At k) = (k < length ds) × (get_or ds k 0 ≡ 0) × (get_or ps k [] ≡ p) × (find at p (gather (slots_of w ds ps bs)) ≡ some (held_in w p (get_or bs k [])))
-SlotIs w ds ps bs p Nothing = (find at p (gather (slots_of w ds ps bs)) ≡ none) × (among p (map at (slots_of w ds ps bs)) ≡ false)
+abbrev pub SlotIs : ℕ → List ℕ → List Bytes → List Bytes → Bytes → Found ℕ → Type 0
+SlotIs w ds ps bs p (Some k) = (k < length ds) × (get_or ds k 0 ≡ 0) × (get_or ps k [] ≡ p) × (find at p (gather (slots_of w ds ps bs)) ≡ some (held_in w p (get_or bs k [])))
+SlotIs w ds ps bs p None = (find at p (gather (slots_of w ds ps bs)) ≡ none) × (among p (map at (slots_of w ds ps bs)) ≡ false)
 
 -- ---- one slot
 

@@ -9,6 +9,7 @@ use Rattle.store_runs.specs.Digits.{digits}
 use Rattle.store_runs.specs.Runs.{cut}
 use Rattle.store_slots.specs.View.{cached_of, stacked_of, aside_of, start_of, Used, marked, all_different}
 use Rattle.store_slots.specs.declared.Record.{Record}
+use Rattle.store_slots.specs.declared.Store.{Store}
 
 -- the cache, and the trees stacked and set aside
 abbrev pub going_of : ℕ → Record → List ℕ → List ℕ → List ℕ → List ℕ → List ℕ → Going
@@ -18,6 +19,9 @@ going_of w r plens paths tlens trees order =
       stack = stacked_of w r plens paths tlens trees order;
       kept = aside_of w r plens paths tlens trees order;
     }
+
+abbrev pub going_in : ℕ → Store → List ℕ → Going
+going_in w s order = going_of w s.ed s.plens.now s.paths.now s.tlens.now s.trees.now order
 
 -- with a tree more on the stack; among those set aside; with one fewer in the cache
 abbrev pub stacked_on : Held → Going → Going

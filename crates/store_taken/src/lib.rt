@@ -10,125 +10,107 @@ ghost use Rattle.model.specs.Editor.{at};
 ghost use Rattle.store_runs.specs.Digits.{digits};
 ghost use Rattle.store_runs.specs.Runs.{cut, Sound};
 ghost use Rattle.store_slots.specs.View.{Laid, Used, Ordered, SameWrite, editor_of, held_at, cached_of};
-ghost use Rattle.store_taken.specs.Taken.{going_of, stacked_on, kept_on, taken_off, Between, Cached, SameSlots, SameTree, writing_of, all_taken, joined, mark_if};
+ghost use Rattle.store_slots.specs.Stores.{LaidIn, SameLent, cached_in, held_in_slot};
+ghost use Rattle.store_taken.specs.Taken.{going_in, going_of, stacked_on, kept_on, taken_off, Between, Cached, SameSlots, SameTree, writing_of, all_taken, joined, mark_if};
 
 use names::limits::SLOTS;
-use store_slots::{Record, Taken};
+use names_compact::compact::Tree;
+use store_slots::{Record, Store};
 
 // Takes a cached tree off the cache and stacks it.
-pub fn stack(r: Record, order: &mut [u64], slot: usize) -> Record
-    requires { ((hand : List ℕ) × Between r order.old hand) × Cached r slot }
-    ensures going { (w : ℕ) (plens paths tlens trees : List ℕ) → Laid w r plens paths tlens trees →
-        going_of w result plens paths tlens trees order.new ≡ stacked_on (held_at w plens paths tlens trees slot) (taken_off (held_at w plens paths tlens trees slot) (going_of w r plens paths tlens trees order.old)) }
-    ensures between { (hand : List ℕ) → Between r order.old hand → Between result order.new hand }
-    ensures same { SameSlots r result × (result.«open» ≡ r.«open») × (result.aside ≡ r.aside) × (result.stacked ≡ r.stacked + 1) × (result.asked ≡ r.asked) }
+pub fn stack(ed: &mut Record, order: &mut [u64], slot: usize)
+    requires { ((hand : List ℕ) × Between ed.old order.old hand) × Cached ed.old slot }
+    ensures going { (w : ℕ) (plens paths tlens trees : List ℕ) → Laid w ed.old plens paths tlens trees →
+        going_of w ed.new plens paths tlens trees order.new ≡ stacked_on (held_at w plens paths tlens trees slot) (taken_off (held_at w plens paths tlens trees slot) (going_of w ed.old plens paths tlens trees order.old)) }
+    ensures between { (hand : List ℕ) → Between ed.old order.old hand → Between ed.new order.new hand }
+    ensures same { SameSlots ed.old ed.new × (ed.new.«open» ≡ ed.old.«open») × (ed.new.aside ≡ ed.old.aside) × (ed.new.stacked ≡ ed.old.stacked + 1) × (ed.new.asked ≡ ed.old.asked) }
 {
-    let map = r.hidden;
-    let n = r.stacked + 1;
+    let n = ed.stacked + 1;
     order[SLOTS - n] = slot as u64;
-    let h = store_runs::bits::set(map, slot);
-    Record {
-        hidden: h,
-        stacked: n,
-        ..r
-    }
+    ed.hidden = store_runs::bits::set(ed.hidden, slot);
+    ed.stacked = n;
 }
 
 // Takes the next tree off the stack.
-pub fn pop(r: Record, order: &[u64]) -> Taken
-    requires { Between r order.now [] × (0 < r.stacked) }
-    ensures going { (w : ℕ) (plens paths tlens trees : List ℕ) → going_of w r plens paths tlens trees order.now
-        ≡ stacked_on (held_at w plens paths tlens trees result.slot) (going_of w result.editor plens paths tlens trees order.now) }
-    ensures between { Between result.editor order.now (result.slot ∷ []) }
-    ensures same { SameSlots r result.editor × (result.editor.hidden ≡ r.hidden) × (result.editor.«open» ≡ r.«open») × (result.editor.aside ≡ r.aside) × (result.editor.stacked ≡ r.stacked - 1) × (result.editor.asked ≡ r.asked) }
+pub fn pop(ed: &mut Record, order: &[u64]) -> usize
+    requires { Between ed.old order.now [] × (0 < ed.old.stacked) }
+    ensures going { (w : ℕ) (plens paths tlens trees : List ℕ) → going_of w ed.old plens paths tlens trees order.now
+        ≡ stacked_on (held_at w plens paths tlens trees result) (going_of w ed.new plens paths tlens trees order.now) }
+    ensures between { Between ed.new order.now (result ∷ []) }
+    ensures same { SameSlots ed.old ed.new × (ed.new.hidden ≡ ed.old.hidden) × (ed.new.«open» ≡ ed.old.«open») × (ed.new.aside ≡ ed.old.aside) × (ed.new.stacked ≡ ed.old.stacked - 1) × (ed.new.asked ≡ ed.old.asked) }
 {
-    let n = r.stacked;
+    let n = ed.stacked;
     let k = order[SLOTS - n] as usize;
-    Taken {
-        slot: k,
-        editor: Record {
-            stacked: n - 1,
-            ..r
-        },
-    }
+    ed.stacked = n - 1;
+    k
 }
 
 // Sets the tree in hand aside.
-pub fn set_aside(r: Record, order: &mut [u64], slot: usize) -> Record
-    requires { Between r order.old (slot ∷ []) }
-    ensures going { (w : ℕ) (plens paths tlens trees : List ℕ) → going_of w result plens paths tlens trees order.new
-        ≡ kept_on (held_at w plens paths tlens trees slot) (going_of w r plens paths tlens trees order.old) }
-    ensures between { Between result order.new [] }
-    ensures same { SameSlots r result × (result.hidden ≡ r.hidden) × (result.«open» ≡ r.«open») × (result.aside ≡ r.aside + 1) × (result.stacked ≡ r.stacked) × (result.asked ≡ r.asked) }
+pub fn set_aside(ed: &mut Record, order: &mut [u64], slot: usize)
+    requires { Between ed.old order.old (slot ∷ []) }
+    ensures going { (w : ℕ) (plens paths tlens trees : List ℕ) → going_of w ed.new plens paths tlens trees order.new
+        ≡ kept_on (held_at w plens paths tlens trees slot) (going_of w ed.old plens paths tlens trees order.old) }
+    ensures between { Between ed.new order.new [] }
+    ensures same { SameSlots ed.old ed.new × (ed.new.hidden ≡ ed.old.hidden) × (ed.new.«open» ≡ ed.old.«open») × (ed.new.aside ≡ ed.old.aside + 1) × (ed.new.stacked ≡ ed.old.stacked) × (ed.new.asked ≡ ed.old.asked) }
 {
-    let n = r.aside;
+    let n = ed.aside;
     order[n] = slot as u64;
-    Record { aside: n + 1, ..r }
+    ed.aside = n + 1;
 }
 
 // Takes the tree that was set aside last.
-pub fn latest(r: Record, order: &[u64]) -> Taken
-    requires { Between r order.now [] × (0 < r.aside) }
-    ensures going { (w : ℕ) (plens paths tlens trees : List ℕ) → going_of w r plens paths tlens trees order.now
-        ≡ kept_on (held_at w plens paths tlens trees result.slot) (going_of w result.editor plens paths tlens trees order.now) }
-    ensures between { Between result.editor order.now (result.slot ∷ []) }
-    ensures same { SameSlots r result.editor × (result.editor.hidden ≡ r.hidden) × (result.editor.«open» ≡ r.«open») × (result.editor.aside ≡ r.aside - 1) × (result.editor.stacked ≡ r.stacked) × (result.editor.asked ≡ r.asked) }
+pub fn latest(ed: &mut Record, order: &[u64]) -> usize
+    requires { Between ed.old order.now [] × (0 < ed.old.aside) }
+    ensures going { (w : ℕ) (plens paths tlens trees : List ℕ) → going_of w ed.old plens paths tlens trees order.now
+        ≡ kept_on (held_at w plens paths tlens trees result) (going_of w ed.new plens paths tlens trees order.now) }
+    ensures between { Between ed.new order.now (result ∷ []) }
+    ensures same { SameSlots ed.old ed.new × (ed.new.hidden ≡ ed.old.hidden) × (ed.new.«open» ≡ ed.old.«open») × (ed.new.aside ≡ ed.old.aside - 1) × (ed.new.stacked ≡ ed.old.stacked) × (ed.new.asked ≡ ed.old.asked) }
 {
-    let n = r.aside - 1;
-    let k = order[n] as usize;
-    Taken {
-        slot: k,
-        editor: Record { aside: n, ..r },
-    }
+    let n = ed.aside - 1;
+    ed.aside = n;
+    order[n] as usize
 }
 
 // Requests the tree in hand.
-pub fn ask(r: Record, slot: usize) -> Record
-    ensures ordered { (order : List ℕ) → Between r order (slot ∷ []) → Ordered result order }
-    ensures editor { (w : ℕ) (plens paths tlens trees order : List ℕ) → Between r order (slot ∷ []) →
-        editor_of w result plens paths tlens trees order ≡ writing_of r.«open» (held_at w plens paths tlens trees slot) (going_of w r plens paths tlens trees order) }
-    ensures same { SameSlots r result × (result.hidden ≡ r.hidden) × (result.«open» ≡ r.«open») × (result.aside ≡ r.aside) × (result.stacked ≡ r.stacked) × (result.asked ≡ slot) }
+pub fn ask(ed: &mut Record, slot: usize)
+    ensures ordered { (order : List ℕ) → Between ed.old order (slot ∷ []) → Ordered ed.new order }
+    ensures editor { (w : ℕ) (plens paths tlens trees order : List ℕ) → Between ed.old order (slot ∷ []) →
+        editor_of w ed.new plens paths tlens trees order ≡ writing_of ed.old.«open» (held_at w plens paths tlens trees slot) (going_of w ed.old plens paths tlens trees order) }
+    ensures same { SameSlots ed.old ed.new × (ed.new.hidden ≡ ed.old.hidden) × (ed.new.«open» ≡ ed.old.«open») × (ed.new.aside ≡ ed.old.aside) × (ed.new.stacked ≡ ed.old.stacked) × (ed.new.asked ≡ slot) }
 {
-    Record { asked: slot, ..r }
+    ed.asked = slot;
 }
 
 // Drops the tree in hand.
-pub fn drop_taken(
-    r: Record,
-    plens: &mut [u64],
-    paths: &mut [u8],
-    tlens: &mut [u64],
-    trees: &mut [u8],
-    width: usize,
-    slot: usize,
-) -> Record
-    requires { Laid width r plens.old paths.old tlens.old trees.old × (width ≤ 64) × ((order : List ℕ) × Between r order (slot ∷ [])) }
-    ensures going { (order : List ℕ) → Between r order (slot ∷ []) → going_of width result plens.new paths.new tlens.new trees.new order
-        ≡ going_of width r plens.old paths.old tlens.old trees.old order }
-    ensures between { (order : List ℕ) → Between r order (slot ∷ []) → Between result order [] }
-    ensures laid { Laid width result plens.new paths.new tlens.new trees.new }
-    ensures others { ((k : ℕ) → (k ≡ slot → ⊥) → SameTree plens.old paths.old tlens.old trees.old plens.new paths.new tlens.new trees.new k)
-        × (digits 64 result.free ≡ set (digits 64 r.free) slot 1) × (digits 64 result.hidden ≡ digits 64 r.hidden) }
-    ensures same { SameWrite r result }
+pub fn drop_taken(s: &mut Store<'_>, width: usize, slot: usize)
+    requires { LaidIn width s.old × (width ≤ 64) × ((order : List ℕ) × Between s.old.ed order (slot ∷ [])) }
+    ensures going { (order : List ℕ) → Between s.old.ed order (slot ∷ []) → going_in width s.new order
+        ≡ going_in width s.old order }
+    ensures between { (order : List ℕ) → Between s.old.ed order (slot ∷ []) → Between s.new.ed order [] }
+    ensures laid { LaidIn width s.new }
+    ensures others { ((k : ℕ) → (k ≡ slot → ⊥) → SameTree s.old.plens.now s.old.paths.now s.old.tlens.now s.old.trees.now s.new.plens.now s.new.paths.now s.new.tlens.now s.new.trees.now k)
+        × (digits 64 s.new.ed.free ≡ set (digits 64 s.old.ed.free) slot 1) × (digits 64 s.new.ed.hidden ≡ digits 64 s.old.ed.hidden) }
+    ensures same { SameWrite s.old.ed s.new.ed }
+    ensures lent { SameLent s.old s.new }
 {
-    store_slots::drop_slot(r, plens, paths, tlens, trees, width, slot)
+    s.drop_slot(width, slot);
 }
 
 // The write is over: the tree in hand, the only one that is taken, is cached again.
-pub fn close(r: Record) -> Record
-    ensures cache { (w : ℕ) (plens paths tlens trees order : List ℕ) (slot : ℕ) → Laid w r plens paths tlens trees → Between r order (slot ∷ []) → r.aside ≡ 0 → r.stacked ≡ 0 →
-        editor_of w result plens paths tlens trees order ≡ record { cached = put at (held_at w plens paths tlens trees slot) (cached_of w r plens paths tlens trees); writing = none } }
-    ensures ordered { (order : List ℕ) → length order ≡ 64 → Ordered result order }
-    ensures same { SameSlots r result × (result.«open» ≡ 0) }
+pub fn close(ed: &mut Record)
+    ensures cache { (w : ℕ) (plens paths tlens trees order : List ℕ) (slot : ℕ) → Laid w ed.old plens paths tlens trees → Between ed.old order (slot ∷ []) → ed.old.aside ≡ 0 → ed.old.stacked ≡ 0 →
+        editor_of w ed.new plens paths tlens trees order ≡ record { cached = put at (held_at w plens paths tlens trees slot) (cached_of w ed.old plens paths tlens trees); writing = none } }
+    ensures ordered { (order : List ℕ) → length order ≡ 64 → Ordered ed.new order }
+    ensures same { SameSlots ed.old ed.new × (ed.new.«open» ≡ 0) }
 {
-    Record {
-        hidden: r.free,
+    *ed = Record {
+        hidden: ed.free,
         open: 0,
         aside: 0,
         stacked: 0,
         asked: 0,
-        ..r
-    }
+        ..*ed
+    };
 }
 
 // Whether the slot k is used and one of those in a map.
@@ -136,88 +118,54 @@ fn goes(free: u64, gone: u64, k: usize) -> bool
     requires { k < 64 }
     ensures { result ≡ (not (eqb (get_or (digits 64 free) k 0) 1) && eqb (get_or (digits 64 gone) k 0) 1) }
 {
-    if store_runs::bits::is_set(free, k) {
-        return false;
-    }
-    store_runs::bits::is_set(gone, k)
+    !store_runs::bits::is_set(free, k) && store_runs::bits::is_set(gone, k)
 }
 
 // Drops the tree of a slot if the slot is used and one of those in a map.
-fn drop_one(
-    r: Record,
-    plens: &mut [u64],
-    paths: &mut [u8],
-    tlens: &mut [u64],
-    trees: &mut [u8],
-    width: usize,
-    gone: u64,
-    k: usize,
-) -> Record
-    requires { Laid width r plens.old paths.old tlens.old trees.old × (width ≤ 64) × (k < 64) }
-    ensures free { digits 64 result.free ≡ mark_if (get_or (digits 64 gone) k 0) (digits 64 r.free) k }
-    ensures others { (j : ℕ) → get_or (digits 64 gone) j 0 ≡ 0 → SameTree plens.old paths.old tlens.old trees.old plens.new paths.new tlens.new trees.new j }
-    ensures laid { Laid width result plens.new paths.new tlens.new trees.new }
-    ensures same { SameWrite r result }
+fn drop_one(s: &mut Store<'_>, width: usize, gone: u64, k: usize)
+    requires { LaidIn width s.old × (width ≤ 64) × (k < 64) }
+    ensures free { digits 64 s.new.ed.free ≡ mark_if (get_or (digits 64 gone) k 0) (digits 64 s.old.ed.free) k }
+    ensures others { (j : ℕ) → get_or (digits 64 gone) j 0 ≡ 0 → SameTree s.old.plens.now s.old.paths.now s.old.tlens.now s.old.trees.now s.new.plens.now s.new.paths.now s.new.tlens.now s.new.trees.now j }
+    ensures laid { LaidIn width s.new }
+    ensures same { SameWrite s.old.ed s.new.ed }
+    ensures lent { SameLent s.old s.new }
 {
-    let map = r.free;
-    if !goes(map, gone, k) {
-        return r;
+    if goes(s.ed.free, gone, k) {
+        s.drop_slot(width, k);
     }
-    store_slots::drop_slot(r, plens, paths, tlens, trees, width, k)
 }
 
 // Drops the tree of each used slot in a map.
-fn drop_each(
-    r: Record,
-    plens: &mut [u64],
-    paths: &mut [u8],
-    tlens: &mut [u64],
-    trees: &mut [u8],
-    width: usize,
-    gone: u64,
-) -> Record
-    requires { Laid width r plens.old paths.old tlens.old trees.old × (width ≤ 64) }
-    ensures free { digits 64 result.free ≡ joined (digits 64 gone) (digits 64 r.free) }
-    ensures others { (k : ℕ) → get_or (digits 64 gone) k 0 ≡ 0 → SameTree plens.old paths.old tlens.old trees.old plens.new paths.new tlens.new trees.new k }
-    ensures laid { Laid width result plens.new paths.new tlens.new trees.new }
-    ensures same { SameWrite r result }
+fn drop_each(s: &mut Store<'_>, width: usize, gone: u64)
+    requires { LaidIn width s.old × (width ≤ 64) }
+    ensures free { digits 64 s.new.ed.free ≡ joined (digits 64 gone) (digits 64 s.old.ed.free) }
+    ensures others { (k : ℕ) → get_or (digits 64 gone) k 0 ≡ 0 → SameTree s.old.plens.now s.old.paths.now s.old.tlens.now s.old.trees.now s.new.plens.now s.new.paths.now s.new.tlens.now s.new.trees.now k }
+    ensures laid { LaidIn width s.new }
+    ensures same { SameWrite s.old.ed s.new.ed }
+    ensures lent { SameLent s.old s.new }
 {
-    let mut ed = r;
-    let mut k = 0;
-    while k < SLOTS {
-        ed = drop_one(ed, plens, paths, tlens, trees, width, gone, k);
-        k += 1;
+    for k in 0..SLOTS {
+        drop_one(s, width, gone, k);
     }
-    ed
 }
 
 // Drops every taken tree but one, which is in hand then.
-pub fn drop_others(
-    r: Record,
-    plens: &mut [u64],
-    paths: &mut [u8],
-    tlens: &mut [u64],
-    trees: &mut [u8],
-    width: usize,
-    start: usize,
-) -> Record
-    requires { Laid width r plens.old paths.old tlens.old trees.old × (width ≤ 64)
-        × ((order : List ℕ) × (hand : List ℕ) × Between r order hand × (has start (all_taken r order hand) ≡ true)) }
-    ensures cache { cached_of width result plens.new paths.new tlens.new trees.new ≡ cached_of width r plens.old paths.old tlens.old trees.old }
-    ensures between { (order : List ℕ) → length order ≡ 64 → Between result order (start ∷ []) }
-    ensures laid { Laid width result plens.new paths.new tlens.new trees.new }
-    ensures others { SameTree plens.old paths.old tlens.old trees.old plens.new paths.new tlens.new trees.new start }
-    ensures same { (result.hidden ≡ r.hidden) × (result.«open» ≡ r.«open») × (result.aside ≡ 0) × (result.stacked ≡ 0) }
+pub fn drop_others(s: &mut Store<'_>, width: usize, start: usize)
+    requires { LaidIn width s.old × (width ≤ 64)
+        × ((order : List ℕ) × (hand : List ℕ) × Between s.old.ed order hand × (has start (all_taken s.old.ed order hand) ≡ true)) }
+    ensures cache { cached_in width s.new ≡ cached_in width s.old }
+    ensures between { (order : List ℕ) → length order ≡ 64 → Between s.new.ed order (start ∷ []) }
+    ensures laid { LaidIn width s.new }
+    ensures others { SameTree s.old.plens.now s.old.paths.now s.old.tlens.now s.old.trees.now s.new.plens.now s.new.paths.now s.new.tlens.now s.new.trees.now start }
+    ensures same { (s.new.ed.hidden ≡ s.old.ed.hidden) × (s.new.ed.«open» ≡ s.old.ed.«open») × (s.new.ed.aside ≡ 0) × (s.new.ed.stacked ≡ 0) }
+    ensures lent { SameLent s.old s.new }
 {
-    let map = r.hidden;
+    let map = s.ed.hidden;
     let gone = store_runs::bits::clear(map, start);
-    let ed = drop_each(r, plens, paths, tlens, trees, width, gone);
-    Record {
-        hidden: map,
-        aside: 0,
-        stacked: 0,
-        ..ed
-    }
+    drop_each(s, width, gone);
+    s.ed.hidden = map;
+    s.ed.aside = 0;
+    s.ed.stacked = 0;
 }
 
 // Every run but the run k becomes empty; gives its length.
@@ -235,30 +183,25 @@ fn keep_run(lens: &mut [u64], bytes: &mut [u8], used: usize, k: usize) -> usize
 }
 
 // Drops every tree but the one in a slot, which is cached then, and the write.
-pub fn keep_only(
-    r: Record,
-    plens: &mut [u64],
-    paths: &mut [u8],
-    tlens: &mut [u64],
-    trees: &mut [u8],
-    width: usize,
-    slot: usize,
-) -> Record
-    requires { Laid width r plens.old paths.old tlens.old trees.old × (width ≤ 64) × Used r slot }
-    ensures editor { (order : List ℕ) → editor_of width result plens.new paths.new tlens.new trees.new order ≡ record { cached = held_at width plens.old paths.old tlens.old trees.old slot ∷ []; writing = none } }
-    ensures ordered { (order : List ℕ) → length order ≡ 64 → Ordered result order }
-    ensures laid { Laid width result plens.new paths.new tlens.new trees.new }
-    ensures others { Used result slot × SameTree plens.old paths.old tlens.old trees.old plens.new paths.new tlens.new trees.new slot }
-    ensures same { (result.hidden ≡ result.free) × (result.«open» ≡ 0) }
+pub fn keep_only(s: &mut Store<'_>, width: usize, slot: usize)
+    requires { LaidIn width s.old × (width ≤ 64) × Used s.old.ed slot }
+    ensures editor { (order : List ℕ) → editor_of width s.new.ed s.new.plens.now s.new.paths.now s.new.tlens.now s.new.trees.now order ≡ record { cached = held_in_slot width s.old slot ∷ []; writing = none } }
+    ensures ordered { (order : List ℕ) → length order ≡ 64 → Ordered s.new.ed order }
+    ensures laid { LaidIn width s.new }
+    ensures others { Used s.new.ed slot × SameTree s.old.plens.now s.old.paths.now s.old.tlens.now s.old.trees.now s.new.plens.now s.new.paths.now s.new.tlens.now s.new.trees.now slot }
+    ensures same { (s.new.ed.hidden ≡ s.new.ed.free) × (s.new.ed.«open» ≡ 0) }
+    ensures lent { SameLent s.old s.new }
 {
-    let np = r.paths;
-    let nt = r.trees;
-    let es = names_compact::compact::count(store_runs::runs::run(tlens, trees, nt, slot), width);
-    let p = keep_run(plens, paths, np, slot);
-    let t = keep_run(tlens, trees, nt, slot);
+    let tree = Tree {
+        bytes: s.view().tree_in(slot),
+        width,
+    };
+    let es = tree.count();
+    let p = keep_run(&mut *s.plens, &mut *s.paths, s.ed.paths, slot);
+    let t = keep_run(&mut *s.tlens, &mut *s.trees, s.ed.trees, slot);
     let ns = t - es * (2 + width);
-    let f = store_runs::bits::clear(0xffff_ffff_ffff_ffff, slot);
-    Record {
+    let f = store_runs::bits::clear(u64::MAX, slot);
+    s.ed = Record {
         free: f,
         hidden: f,
         paths: p,
@@ -269,5 +212,5 @@ pub fn keep_only(
         aside: 0,
         stacked: 0,
         asked: 0,
-    }
+    };
 }

@@ -20,7 +20,7 @@ use Rattle.model.proofs.RoomCounts.{trees_total, entries_total, names_total, pat
 use Rattle.model.proofs.Growth.{fits_less}
 use Rattle.names.specs.Check.{TreeSize, size_of}
 use Rattle.names_compact.specs.Compact.{packed_all, Takes}
-use Rattle.names.specs.declared.tree.Checked.TheVariants.{WellFormed}
+use Rattle.std.specs.Prelude.{Some}
 use Rattle.names_compact.proofs.PackLaws.{takes_checked}
 use Rattle.store_runs.specs.Digits.{digits}
 use Rattle.store_runs.specs.Runs.{cut, with_run, Sound}
@@ -35,7 +35,7 @@ use Rattle.store_entries.proofs.EditLaws.{edited, entries_then, names_then}
 -- the tree whose size the check told
 module _ (w : ℕ) (raw : Bytes) (es ns : ℕ) (size : size_of (read_tree w raw) ≡ some (record { entries = es; bytes = ns })) where
   pub takes : Takes w raw (es * (2 + w) + ns)
-  takes = takes_checked {w = w} {raw = raw} {r = WellFormed es ns} (sym size) refl (es * (2 + w) + ns) refl
+  takes = takes_checked {w = w} {raw = raw} {r = Some (record { entries = es; name_bytes = ns })} (sym size) refl (es * (2 + w) + ns) refl
 
   abbrev told : TreeSize
   told = record { entries = es; bytes = ns }
@@ -59,8 +59,8 @@ module _ (w : ℕ) (raw : Bytes) (es ns : ℕ) (size : size_of (read_tree w raw)
       counts_fit =
           let t = takes.tree in
           let e = takes.reads in (
-            omega (arith, entries_then w r plens paths tlens trees L k U t (f t e), as_many t e, ap length blank),
-            omega (arith, names_then w r plens paths tlens trees L k U t (f t e), as_long t e, ap name_bytes blank),
+            omega (arith, entries_then L U t (f t e), as_many t e, ap length blank),
+            omega (arith, names_then L U t (f t e), as_long t e, ap name_bytes blank),
           )
 
       pub bytes_fit : r.trees + (es * (2 + w) + ns) ≤ length trees
@@ -72,7 +72,7 @@ module _ (w : ℕ) (raw : Bytes) (es ns : ℕ) (size : size_of (read_tree w raw)
         length tlens' ≡ length tlens → length trees' ≡ length trees → Sound tlens' trees' q.trees → Kept r q → q.entries ≡ r.entries + es → q.names ≡ r.names + ns →
         (t : Tree) → read_tree w raw ≡ some t → Edited w r plens paths tlens trees k t q tlens' trees'
     filled q tlens' trees' c tl tb st same ee en t e =
-        edited w r plens paths tlens trees L k U t (λ (l : Bytes). packed_all t) q tlens' trees' refl (read_only w raw t e).1 (c t e) same tl tb st
+        edited L U t (λ (l : Bytes). packed_all t) q tlens' trees' refl (read_only w raw t e).1 (c t e) same tl tb st
         (omega (arith, ee, as_many t e, ap length blank)) (omega (arith, en, as_long t e, ap name_bytes blank))
 
 -- an empty tree under a path has room where any tree has

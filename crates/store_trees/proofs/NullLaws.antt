@@ -1,18 +1,19 @@
 -- Laws of null entries: those passed are kept in order at the front, and those that are left stand where they stood. Assumes nothing.
-use mathlib.Core.Path.{◌≡◌, refl, sym, ap, ap₂, ◌∙◌, subst}
+use mathlib.Core.Path.{◌≡◌, refl, sym, ap, ◌∙◌, subst}
 use mathlib.Core.Bool.{Bool, true, false}
 use mathlib.Core.List.{List, [], ◌∷◌, ◌++◌, append_assoc, append-nil}
 use Prim.Native.Nat.compare
 use Prim.Native.Nat.{ℕ, zero, suc, ◌+◌, ◌-◌, ◌*◌, ◌≤◌, ◌<◌}
 use native.Mathlib.Nat.{add-mul}
-use native.Mathlib.Numerals.{add-one}
 use native.Mathlib.Omega.{arith}
+use lib.Dec.{eqb}
 use lib.ListN.{length, take, drop, get_or, length-append, length-drop, drop_of_length-le}
-use lib.Seq.{take_at, drop_at, drop-cons, drop-drop, get_or-drop, length-take-le}
+use lib.Seq.{take_at, drop_at, drop-drop, get_or-drop, length-take-le}
 use Rattle.model.specs.Bytes.{Bytes, same}
 use Rattle.model.specs.Tree.{Entry, Tree, null, pick_tree, without_id, name_bytes, well_formed}
 use Rattle.model.proofs.RawLaws.{well_entries}
 use Rattle.model.proofs.WriteKeepsTrees.{well_dropped, names_dropped}
+use Rattle.std.specs.List.{list_all}
 use Rattle.names.specs.Check.{Wide}
 use Rattle.names_compact.specs.Compact.{packed, packed_all, unpack, Run}
 use Rattle.names.specs.Splice.{splice}
@@ -35,48 +36,11 @@ use Rattle.store_trees.specs.declared.nulls.Left.{Left}
 
 -- ---- the null id
 
-zero_more : (x : ℕ) (xs : Bytes) (n : ℕ) → x ≡ 0 → same (x ∷ xs) (null (suc n)) ≡ same xs (null n)
+pub all_zero : (id : Bytes) → list_all (λ (b : ℕ). eqb b 0) id ≡ same id (null (length id))
 unfolding null
-zero_more zero xs n e = refl
-zero_more (suc x) xs n e = absurd (omega arith)
-
-other_none : (x : ℕ) (xs : Bytes) (n : ℕ) → (x ≡ 0 → ⊥) → false ≡ same (x ∷ xs) (null (suc n))
-unfolding null
-other_none zero xs n h = absurd (h refl)
-other_none (suc x) xs n h = rw (compare.suc-zero x)
-
-none_null : true ≡ same [] (null 0)
-unfolding null
-none_null = refl
-
--- the first i bytes of the id are zero
-pub record Zeros (id : Bytes) (i : ℕ) : Type 0 where
-  pub within : i ≤ length id
-  pub rest : same (drop i id) (null (length id - i)) ≡ same id (null (length id))
-
-pub zeros_begin : (id : Bytes) → Zeros id 0
-zeros_begin id = record { within = omega arith; rest = ap (λ (n : ℕ). same id (null n)) (let e : length id - 0 ≡ length id = omega arith in e) }
-
-module _ {id : Bytes} {i : ℕ} (z : Zeros id i) where
-  pub zeros_end : length id ≤ i → true ≡ same id (null (length id))
-  zeros_end h =
-      let e : length id - i ≡ 0 = omega arith in
-      none_null ∙ ap₂ (λ (l : Bytes) (n : ℕ). same l (null n)) (sym (drop_of_length-le id h)) (sym e) ∙ z.rest
-
-  module _ (h : i < length id) where
-    here_is : same (get_or id i 0 ∷ drop (suc i) id) (null (suc (length id - (i + 1)))) ≡ same id (null (length id))
-    here_is =
-        let e : suc (length id - (i + 1)) ≡ length id - i = omega arith in
-        ap₂ (λ (l : Bytes) (n : ℕ). same l (null n)) (sym (drop-cons id i 0 h)) e ∙ z.rest
-
-    pub zeros_other : (get_or id i 0 ≡ 0 → ⊥) → false ≡ same id (null (length id))
-    zeros_other n = other_none (get_or id i 0) (drop (suc i) id) (length id - (i + 1)) n ∙ here_is
-
-    pub zeros_more : get_or id i 0 ≡ 0 → Zeros id (i + 1)
-    zeros_more e = record {
-      within = omega arith;
-      rest = ap (λ (x : ℕ). same (drop x id) (null (length id - (i + 1)))) (add-one i) ∙ sym (zero_more (get_or id i 0) (drop (suc i) id) (length id - (i + 1)) e) ∙ here_is;
-    }
+all_zero [] = refl
+all_zero (zero ∷ xs) = all_zero xs
+all_zero (suc x ∷ xs) = rw (compare.suc-zero x)
 
 -- ---- the entries that are kept
 
@@ -347,5 +311,5 @@ module _ (w : ℕ) (r : Record) (plens paths tlens trees : List ℕ) (L : Laid w
       length tlens' ≡ length tlens → length trees' ≡ length trees → Sound tlens' trees' q.trees → Kept r q → q.entries ≡ r.entries - l.gone → q.names ≡ r.names - (r.trees - l.used - l.gone * (2 + w)) →
       Edited w r plens paths tlens trees k (without_id (null w) (tree_of w tlens trees k)) q tlens' trees'
   dropping q tlens' trees' c tl tb st same ee en =
-      edited w r plens paths tlens trees L k U t' (λ (b : Bytes). packed_all (without_id (null w) (unpack w b))) q tlens' trees' refl well' c same tl tb st
+      edited L U t' (λ (b : Bytes). packed_all (without_id (null w) (unpack w b))) q tlens' trees' refl well' c same tl tb st
       (omega (arith, ee, gone_in, F.entries)) (omega (arith, en, names_gone, names_left))

@@ -1,5 +1,5 @@
 -- What a slot's tree is read from: its run, where it lies. Assumes nothing.
-use mathlib.Core.Path.{◌≡◌, sym, ap, subst}
+use mathlib.Core.Path.{◌≡◌, sym, ap, subst, ◌∙◌}
 use mathlib.Core.List.{List}
 use Prim.Native.Nat.{ℕ, ◌≤◌, ◌<◌}
 use native.Mathlib.Omega.{arith}
@@ -15,11 +15,12 @@ use Rattle.store_slots.proofs.Relaid.{run_in}
 use Rattle.store_trees.specs.Trees.{Readable}
 
 module _ {w : ℕ} {r : Record} {tlens trees : List ℕ} {k : ℕ} (p : Readable w r tlens trees k) where
-  pub run_there : Run w (run_of tlens trees k)
-  run_there = subst (Run w) (cut_at tlens trees k p.low) p.run
+  -- the run at hand
+  pub run_there : {z : List ℕ} → z ≡ run_of tlens trees k → Run w z
+  run_there e = subst (Run w) (cut_at tlens trees k p.low ∙ sym e) p.run
 
-  pub tree_there : unpack w (run_of tlens trees k) ≡ tree_of w tlens trees k
-  tree_there = ap (unpack w) (sym (cut_at tlens trees k p.low))
+  pub tree_there : {z : List ℕ} → z ≡ run_of tlens trees k → unpack w z ≡ tree_of w tlens trees k
+  tree_there e = ap (unpack w) (e ∙ sym (cut_at tlens trees k p.low))
 
   pub run_small : length (run_of tlens trees k) ≤ 4294967296
   run_small =

@@ -15,7 +15,8 @@ pub fn widen(lens: &mut [u64], bytes: &mut [u8], used: usize, k: usize, n: usize
     ensures place { (result ≡ total (take k lens.new)) × (get_or lens.new k 0 ≡ n) }
 {
     let a = store_runs::runs::start(lens, k);
-    store_runs::moves::shift_up(bytes, a, used, n);
+    let to = a + n;
+    store_runs::moves::shift(bytes, a, used, to);
     lens[k] = n as u64;
     a
 }

@@ -7,75 +7,45 @@ ghost use Rattle.model.specs.Tree.{Tree};
 ghost use Rattle.model.specs.Editor.{at, fits};
 ghost use Rattle.names.specs.Check.{size_of};
 ghost use Rattle.store_runs.specs.Digits.{digits};
-ghost use Rattle.store_slots.specs.View.{view_of, held_as, Laid, path_of, tree_of, Used, Others, SameWrite};
-ghost use Rattle.store_entries.specs.Entries.{Edited};
+ghost use Rattle.store_slots.specs.View.{held_as, Used, SameWrite};
+ghost use Rattle.store_slots.specs.Stores.{LaidIn, OtherKeys, OtherTrees, SameLent, path_in_slot, tree_in_slot, view_in};
+ghost use Rattle.store_entries.specs.Entries.{EditedIn, FitsWith};
 
-use store_slots::{Record, Taken};
+use names::tree::Size;
+use store_slots::Store;
 
-// Puts the tree that is read from its raw form, with so many entries and name bytes, in the place of a slot's empty tree.
-fn fill_slot(
-    r: Record,
-    plens: &[u64],
-    paths: &[u8],
-    tlens: &mut [u64],
-    trees: &mut [u8],
-    width: usize,
-    slot: usize,
-    raw: &[u8],
-    entries: usize,
-    name_bytes: usize,
-) -> Record
-    requires { Laid width r plens.now paths.now tlens.old trees.old × (width ≤ 64) × Used r slot × (tree_of width tlens.old trees.old slot ≡ [])
-        × (size_of (read_tree width raw.now) ≡ some (record { entries = entries; bytes = name_bytes }))
-        × ((t : Tree) → read_tree width raw.now ≡ some t → fits (put at (held_as (path_of plens.now paths.now slot) t) (view_of width r plens.now paths.now tlens.old trees.old)) ≡ true) }
-    ensures { (t : Tree) → read_tree width raw.now ≡ some t
-        → Edited width r plens.now paths.now tlens.old trees.old slot t result tlens.new trees.new }
+// Puts the tree that is read from its raw form, of this size, in the place of a slot's empty tree.
+fn fill_slot(s: &mut Store<'_>, width: usize, slot: usize, raw: &[u8], size: Size)
+    requires { LaidIn width s.old × (width ≤ 64) × Used s.old.ed slot × (tree_in_slot width s.old slot ≡ [])
+        × (size_of (read_tree width raw.now) ≡ some (record { entries = size.entries; bytes = size.name_bytes }))
+        × ((t : Tree) → read_tree width raw.now ≡ some t → FitsWith width s.old slot t) }
+    ensures edited { (t : Tree) → read_tree width raw.now ≡ some t → EditedIn width s.old slot t s.new }
+    ensures lent { SameLent s.old s.new }
 {
-    let nt = r.trees;
-    let n = entries * (2 + width) + name_bytes;
-    crate::gap::fill(tlens, trees, nt, slot, n, raw, width);
-    let t = nt + n;
-    let more = r.entries + entries;
-    let bytes = r.names + name_bytes;
-    Record {
-        trees: t,
-        entries: more,
-        names: bytes,
-        ..r
-    }
+    let n = size.entries * (2 + width) + size.name_bytes;
+    let r = s.ed;
+    crate::gap::fill(&mut *s.tlens, &mut *s.trees, r.trees, slot, n, raw, width);
+    let bytes = r.names + size.name_bytes;
+    s.ed.trees = r.trees + n;
+    s.ed.entries = r.entries + size.entries;
+    s.ed.names = bytes;
 }
 
-// Caches a well-formed raw tree, with so many entries and name bytes, under a path that has none, in the first free slot.
-pub fn load(
-    r: Record,
-    plens: &mut [u64],
-    paths: &mut [u8],
-    tlens: &mut [u64],
-    trees: &mut [u8],
-    width: usize,
-    path: &[u8],
-    raw: &[u8],
-    entries: usize,
-    name_bytes: usize,
-) -> Taken
-    requires { Laid width r plens.old paths.old tlens.old trees.old × (width ≤ 64) × (r.hidden ≡ r.free)
-        × (size_of (read_tree width raw.now) ≡ some (record { entries = entries; bytes = name_bytes }))
-        × (find at path.now (view_of width r plens.old paths.old tlens.old trees.old) ≡ none)
-        × ((t : Tree) → read_tree width raw.now ≡ some t → fits (put at (held_as path.now t) (view_of width r plens.old paths.old tlens.old trees.old)) ≡ true) }
-    ensures view { (t : Tree) → read_tree width raw.now ≡ some t → view_of width result.editor plens.new paths.new tlens.new trees.new
-        ≡ put at (held_as path.now t) (view_of width r plens.old paths.old tlens.old trees.old) }
-    ensures slot { Used result.editor result.slot × (path_of plens.new paths.new result.slot ≡ path.now)
-        × ((t : Tree) → read_tree width raw.now ≡ some t → tree_of width tlens.new trees.new result.slot ≡ t) }
-    ensures laid { Laid width result.editor plens.new paths.new tlens.new trees.new }
-    ensures others { Others plens.old paths.old result.slot plens.new paths.new
-        × Others tlens.old trees.old result.slot tlens.new trees.new
-        × (digits 64 result.editor.free ≡ set (digits 64 r.free) result.slot 0) }
-    ensures same { (result.editor.hidden ≡ result.editor.free) × SameWrite r result.editor }
+// Caches a well-formed raw tree, of this size, under a path that has none, in the first free slot, and gives the slot.
+pub fn load(s: &mut Store<'_>, width: usize, path: &[u8], raw: &[u8], size: Size) -> usize
+    requires { LaidIn width s.old × (width ≤ 64) × (s.old.ed.hidden ≡ s.old.ed.free)
+        × (size_of (read_tree width raw.now) ≡ some (record { entries = size.entries; bytes = size.name_bytes }))
+        × (find at path.now (view_in width s.old) ≡ none)
+        × ((t : Tree) → read_tree width raw.now ≡ some t → fits (put at (held_as path.now t) (view_in width s.old)) ≡ true) }
+    ensures view { (t : Tree) → read_tree width raw.now ≡ some t → view_in width s.new ≡ put at (held_as path.now t) (view_in width s.old) }
+    ensures slot { Used s.new.ed result × (path_in_slot s.new result ≡ path.now)
+        × ((t : Tree) → read_tree width raw.now ≡ some t → tree_in_slot width s.new result ≡ t) }
+    ensures laid { LaidIn width s.new }
+    ensures others { OtherKeys s.old result s.new × OtherTrees s.old result s.new × (digits 64 s.new.ed.free ≡ set (digits 64 s.old.ed.free) result 0) }
+    ensures same { (s.new.ed.hidden ≡ s.new.ed.free) × SameWrite s.old.ed s.new.ed }
+    ensures lent { SameLent s.old s.new }
 {
-    let one = store_slots::add_empty(r, plens, paths, tlens, trees, width, path);
-    let k = one.slot;
-    let q = fill_slot(
-        one.editor, plens, paths, tlens, trees, width, k, raw, entries, name_bytes,
-    );
-    Taken { slot: k, editor: q }
+    let slot = s.add_empty(width, path);
+    fill_slot(s, width, slot, raw, size);
+    slot
 }

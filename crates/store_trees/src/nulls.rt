@@ -4,11 +4,12 @@ ghost use Rattle.model.specs.Bytes.{same};
 ghost use Rattle.model.specs.Tree.{null, without_id};
 ghost use Rattle.names_compact.specs.Compact.{packed_all, unpack, Run};
 ghost use Rattle.store_runs.specs.Runs.{cut, with_run, Sound};
-ghost use Rattle.store_slots.specs.View.{Laid, tree_of, Used};
-ghost use Rattle.store_entries.specs.Entries.{Edited};
+ghost use Rattle.store_slots.specs.View.{Used};
+ghost use Rattle.store_slots.specs.Stores.{LaidIn, tree_in_slot};
+ghost use Rattle.store_entries.specs.Entries.{EditedIn};
 ghost use Rattle.store_trees.specs.Trees.{Fewer};
 
-use store_slots::Record;
+use store_slots::Store;
 
 // The bytes then in use, and how many entries are gone.
 #[derive(Clone, Copy)]
@@ -21,14 +22,7 @@ pub struct Left {
 pub fn is_null(id: &[u8]) -> bool
     ensures { result ≡ same id.now (null (length id.now)) }
 {
-    let mut i = 0;
-    while i < id.len() {
-        if id[i] != 0 {
-            return false;
-        }
-        i += 1;
-    }
-    true
+    id.iter().all(|b| *b == 0)
 }
 
 // Moves the entries whose ids are not null to the front of a run, and says what is left.
@@ -37,21 +31,21 @@ fn close_up(run: &mut [u8], width: usize) -> Left
     ensures front { take result.used run.new ≡ packed_all (without_id (null width) (unpack width run.old)) }
     ensures counts { Fewer width run.old (length run.old) result }
 {
-    let mut i = 0;
-    let mut len = 0;
+    let mut at = 0;
+    let mut used = 0;
     let mut gone = 0;
-    while i < run.len() {
-        let m = 2 + width + run[i + 1] as usize;
-        let e = i + m;
-        if is_null(names::part::between(run, i + 2, width)) {
+    while at < run.len() {
+        let m = 2 + width + run[at + 1] as usize;
+        let end = at + m;
+        if is_null(names::part::between(run, at + 2, width)) {
             gone += 1;
         } else {
-            store_runs::moves::shift_down(run, len, e, i - len);
-            len += m;
+            store_runs::moves::shift(run, at, end, used);
+            used += m;
         }
-        i = e;
+        at = end;
     }
-    Left { used: len, gone }
+    Left { used, gone }
 }
 
 // Takes the null entries out of the run k, and says what is left.
@@ -65,36 +59,21 @@ fn close_run(lens: &mut [u64], bytes: &mut [u8], used: usize, k: usize, width: u
     let n = lens[k] as usize;
     let e = a + n;
     let left = close_up(&mut bytes[a..e], width);
-    let len = left.used;
-    let gone = left.gone;
-    let t = store_runs::runs::remove(lens, bytes, used, k, len, n - len);
-    Left { used: t, gone }
+    Left {
+        used: store_runs::runs::remove(lens, bytes, used, k, left.used, n - left.used),
+        gone: left.gone,
+    }
 }
 
 // Takes the entries whose ids are null out of a slot's tree.
-pub fn drop_null(
-    r: Record,
-    plens: &[u64],
-    paths: &[u8],
-    tlens: &mut [u64],
-    trees: &mut [u8],
-    width: usize,
-    slot: usize,
-) -> Record
-    requires { Laid width r plens.now paths.now tlens.old trees.old × (width ≤ 64) × Used r slot }
-    ensures { Edited width r plens.now paths.now tlens.old trees.old slot (without_id (null width) (tree_of width tlens.old trees.old slot)) result tlens.new trees.new }
+pub fn drop_null(s: &mut Store<'_>, width: usize, slot: usize)
+    requires { LaidIn width s.old × (width ≤ 64) × Used s.old.ed slot }
+    ensures { EditedIn width s.old slot (without_id (null width) (tree_in_slot width s.old slot)) s.new }
 {
-    let nt = r.trees;
-    let left = close_run(tlens, trees, nt, slot, width);
-    let t = left.used;
-    let gone = left.gone;
-    let bytes = nt - t - gone * (2 + width);
-    let fewer = r.entries - gone;
-    let names = r.names - bytes;
-    Record {
-        trees: t,
-        entries: fewer,
-        names: names,
-        ..r
-    }
+    let r = s.ed;
+    let left = close_run(&mut *s.tlens, &mut *s.trees, r.trees, slot, width);
+    let bytes = r.trees - left.used - left.gone * (2 + width);
+    s.ed.trees = left.used;
+    s.ed.entries = r.entries - left.gone;
+    s.ed.names = r.names - bytes;
 }

@@ -14,7 +14,7 @@ returns-then-r-eq0 c =
     let r = c.args.r in
     let order = c.args.order.now in record { start = λ w plens paths tlens trees. start_asked (held_at w plens paths tlens trees) order r.aside r.asked c.if-r-eq0.true; taken = has_here r.asked r.asked (take r.aside order ++ drop (64 - r.stacked) order) refl; slot = start_now r.aside r.asked order c.if-r-eq0.true }
 
-pub returns : goal.returns
-returns c =
+pub returns-else-r-eq0 : goal.returns-else-r-eq0
+returns-else-r-eq0 c =
     let r = c.args.r in
     let order = c.args.order.now in record { start = λ w plens paths tlens trees. start_first (held_at w plens paths tlens trees) order r.aside r.asked c.if-r-eq0.false (omega (arith, c.requires)); taken = first_taken order r.aside r.asked (drop (64 - r.stacked) order) c.if-r-eq0.false (omega (arith, c.requires)); slot = start_later r.aside r.asked order c.if-r-eq0.false }

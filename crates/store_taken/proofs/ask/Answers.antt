@@ -7,4 +7,4 @@ use Rattle.store_taken.proofs.ask.Goals as goal
 pub returns : goal.returns
 returns c =
     let a = c.args in
-    let q : Record = record { free = a.r.free; hidden = a.r.hidden; paths = a.r.paths; trees = a.r.trees; entries = a.r.entries; names = a.r.names; «open» = a.r.«open»; aside = a.r.aside; stacked = a.r.stacked; asked = a.slot } in record { ordered = λ order b. ask_ordered a.r order a.slot b q (record { free = refl; hidden = refl; «open» = refl; aside = refl; stacked = refl }) refl; editor = λ w plens paths tlens trees order b. ask_editor a.r order a.slot b w plens paths tlens trees; same = (record { free = refl; paths = refl; trees = refl; entries = refl; names = refl }, refl, refl, refl, refl, refl) }
+    let q : Record = record { free = a.ed.now.free; hidden = a.ed.now.hidden; paths = a.ed.now.paths; trees = a.ed.now.trees; entries = a.ed.now.entries; names = a.ed.now.names; «open» = a.ed.now.«open»; aside = a.ed.now.aside; stacked = a.ed.now.stacked; asked = a.slot } in record { ordered = λ order b. ask_ordered a.ed.now order a.slot b q (record { free = refl; hidden = refl; «open» = refl; aside = refl; stacked = refl }) refl; editor = λ w plens paths tlens trees order b. ask_editor a.ed.now order a.slot b w plens paths tlens trees; same = (record { free = refl; paths = refl; trees = refl; entries = refl; names = refl }, refl, refl, refl, refl, refl) }

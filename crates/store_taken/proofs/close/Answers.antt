@@ -13,4 +13,4 @@ empty x = record { cached = x; writing = none }
 pub returns : goal.returns
 returns c =
     let a = c.args in
-    let q : Record = record { free = a.r.free; hidden = a.r.free; paths = a.r.paths; trees = a.r.trees; entries = a.r.entries; names = a.r.names; «open» = 0; aside = 0; stacked = 0; asked = 0 } in record { cache = λ w plens paths tlens trees order slot L b ea es. ap empty (closed_cache a.r order slot b w plens paths tlens trees L ea es); ordered = λ order l. closed_ordered q order l refl (record { hidden = refl; aside = refl; stacked = refl; asked = refl }); same = (record { free = refl; paths = refl; trees = refl; entries = refl; names = refl }, refl) }
+    let q : Record = record { free = a.ed.now.free; hidden = a.ed.now.free; paths = a.ed.now.paths; trees = a.ed.now.trees; entries = a.ed.now.entries; names = a.ed.now.names; «open» = 0; aside = 0; stacked = 0; asked = 0 } in record { cache = λ w plens paths tlens trees order slot L b ea es. ap empty (closed_cache a.ed.now order slot b w plens paths tlens trees L ea es); ordered = λ order l. closed_ordered q order l refl (record { hidden = refl; aside = refl; stacked = refl; asked = refl }); same = (record { free = refl; paths = refl; trees = refl; entries = refl; names = refl }, refl) }

@@ -1,9 +1,13 @@
-use Prim.Native.Nat.{◌-◌}
+use Prim.Native.Nat.{ℕ}
+use Rattle.store_slots.specs.Stores.{SameLent}
+use Rattle.store_slots.specs.declared.Store.{Store}
 use Rattle.store_taken.proofs.Dropping.{Dropping}
 use Rattle.store_taken.proofs.drop_each.Given as goal
 
-abbrev pub invariant-loop-k : goal.invariant-loop-k
-invariant-loop-k l = Dropping l.width l.gone l.initial.ed l.initial.plens l.initial.paths l.initial.tlens l.initial.trees l.k l.ed l.plens l.paths l.tlens l.trees
+-- those of the map below the place k are dropped
+pub record Dropped (w gone : ℕ) (s : Store) (k : ℕ) (q : Store) : Type 0 where
+  pub dropping : Dropping w gone s.ed s.plens.now s.paths.now s.tlens.now s.trees.now k q.ed q.plens.now q.paths.now q.tlens.now q.trees.now
+  pub lent : SameLent s q
 
-abbrev pub decreases-loop-k : goal.decreases-loop-k
-decreases-loop-k l = 64 - l.k
+abbrev pub invariant-loop-k : goal.invariant-loop-k
+invariant-loop-k l = Dropped l.width l.gone l.initial.s l.k l.s

@@ -8,4 +8,4 @@ use Rattle.store_taken.proofs.pop.Goals as goal
 pub returns : goal.returns
 returns c =
     let a = c.args in
-    let q : Record = record { free = a.r.free; hidden = a.r.hidden; paths = a.r.paths; trees = a.r.trees; entries = a.r.entries; names = a.r.names; «open» = a.r.«open»; aside = a.r.aside; stacked = a.r.stacked - 1; asked = a.r.asked } in record { going = pop_going a.r a.order.now c.requires.0 q (record { free = refl; hidden = refl; «open» = refl; aside = refl; stacked = refl }) c.requires.1; between = pop_between a.r a.order.now c.requires.0 q (record { free = refl; hidden = refl; «open» = refl; aside = refl; stacked = refl }) c.requires.1; same = (record { free = refl; paths = refl; trees = refl; entries = refl; names = refl }, refl, refl, refl, refl, refl) }
+    let q : Record = record { free = a.ed.now.free; hidden = a.ed.now.hidden; paths = a.ed.now.paths; trees = a.ed.now.trees; entries = a.ed.now.entries; names = a.ed.now.names; «open» = a.ed.now.«open»; aside = a.ed.now.aside; stacked = a.ed.now.stacked - 1; asked = a.ed.now.asked } in record { going = pop_going a.ed.now a.order.now c.requires.0 q (record { free = refl; hidden = refl; «open» = refl; aside = refl; stacked = refl }) c.requires.1; between = pop_between a.ed.now a.order.now c.requires.0 q (record { free = refl; hidden = refl; «open» = refl; aside = refl; stacked = refl }) c.requires.1; same = (record { free = refl; paths = refl; trees = refl; entries = refl; names = refl }, refl, refl, refl, refl, refl) }

@@ -3,14 +3,11 @@ use mathlib.Core.Path.{sym, ◌∙◌}
 use Rattle.editor_terms.proofs.EditLaws.{removes_nothing, removes_below, removes_no_further}
 use Rattle.editor_terms.proofs.edit.remove_turn.Goals as goal
 
-pub returns-then-last : goal.returns-then-last
-returns-then-last c = rw (c.in-Entry.is, c.if-last.true) (c.remove_last.ensures _)
+pub returns-in-Some-2 : goal.returns-in-Some-2
+returns-in-Some-2 c = rw (c.in-Some-2.is, c.if-last.false) (removes_below _ _ (sym c.is_tree.ensures ∙ c.if-is_tree.true))
 
-pub returns-in-Nothing : goal.returns-in-Nothing
-returns-in-Nothing c = rw c.in-Nothing.is (removes_nothing _ _)
+pub returns-in_default : goal.returns-in_default
+returns-in_default c = rw (c.in-Some-2.is, c.if-last.false) (removes_no_further _ _ (sym c.is_tree.ensures ∙ c.if-is_tree.false))
 
-pub returns-then-is_tree : goal.returns-then-is_tree
-returns-then-is_tree c = rw (c.in-Entry.is, c.if-last.false) (removes_below _ _ _ (sym c.is_tree.ensures ∙ c.if-is_tree.true))
-
-pub returns-else-is_tree : goal.returns-else-is_tree
-returns-else-is_tree c = rw (c.in-Entry.is, c.if-last.false) (removes_no_further _ _ _ (sym c.is_tree.ensures ∙ c.if-is_tree.false))
+pub returns-in_default-2 : goal.returns-in_default-2
+returns-in_default-2 c = rw c.in_default.is (removes_nothing _ _)

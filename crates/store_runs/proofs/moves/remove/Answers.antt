@@ -5,4 +5,4 @@ use Rattle.store_runs.proofs.moves.remove.Goals as goal
 pub returns : goal.returns
 returns c =
     let a = c.args in
-    remove_law a.s.now a.at a.used a.n _ c.requires.0 c.requires.1 c.shift_down.ensures
+    remove_law a.s.now a.at a.used a.n _ c.requires.0 c.requires.1 c.shift.ensures

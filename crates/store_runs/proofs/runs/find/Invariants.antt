@@ -1,6 +1,6 @@
 use mathlib.Core.Path.{◌≡◌}
 use mathlib.Core.List.{List}
-use Prim.Native.Nat.{ℕ, ◌-◌, ◌≤◌}
+use Prim.Native.Nat.{ℕ}
 use lib.ListN.{take, drop}
 use Rattle.store_runs.specs.Digits.{digits}
 use Rattle.store_runs.specs.Runs.{total, cut}
@@ -9,12 +9,8 @@ use Rattle.store_runs.proofs.runs.find.Given as goal
 
 -- up to the slot i, whose path is at a: what is found from there on is what is found
 pub record Seeking (ds : List ℕ) (lens bytes path : List ℕ) (i a : ℕ) : Type 0 where
-  pub within : i ≤ 64
   pub offset : a ≡ total (take i lens)
   pub rest : find_from 0 ds (cut lens bytes) path ≡ find_from i (drop i ds) (drop i (cut lens bytes)) path
 
-abbrev pub invariant-loop-i : goal.invariant-loop-i
-invariant-loop-i l = Seeking (digits 64 l.free) l.lens l.bytes l.path l.i l.a
-
-abbrev pub decreases-loop-i : goal.decreases-loop-i
-decreases-loop-i l = 64 - l.i
+abbrev pub invariant-loop-k : goal.invariant-loop-k
+invariant-loop-k l = Seeking (digits 64 l.free) l.lens l.bytes l.path l.k l.a

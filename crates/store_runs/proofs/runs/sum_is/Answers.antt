@@ -9,21 +9,15 @@ use Rattle.store_runs.specs.Runs.{total}
 use Rattle.store_runs.proofs.RunLaws.{total_more, total_within, eqb_shift}
 use Rattle.store_runs.proofs.runs.sum_is.Goals as goal
 
-pub loop-i-init : goal.loop-i-init
+pub loop-n-init : goal.loop-n-init
 unfolding total
-loop-i-init c = omega arith
+loop-n-init c = omega arith
 
-pub returns-then-n-left : goal.returns-then-n-left
-returns-then-n-left c =
-    let a = c.args in
-    sym (ne_eqb (total a.lens.now) a.used (λ e. omega (arith, total_within a.lens.now c.loop-i.i (omega arith))))
+pub returns-in_default : goal.returns-in_default
+returns-in_default c = sym (ne_eqb _ _ (λ e. c.in_default.ensures (omega (arith, e, total_within c.args.lens.now c.loop-n.n-index c.loop-n-test.true))))
 
-pub loop-i-preserved : goal.loop-i-preserved
-loop-i-preserved c =
-    let a = c.args in
-    omega (arith, total_more a.lens.now c.loop-i.i (omega arith))
+pub loop-n-preserved : goal.loop-n-preserved
+loop-n-preserved c = omega (arith, c.in-Some.ensures.0, c.in-Some.ensures.1, total_more c.args.lens.now c.loop-n.n-index c.loop-n-test.true)
 
 pub returns : goal.returns
-returns c =
-    let a = c.args in
-    eqb_shift (total a.lens.now) c.loop-i.left a.used (ap (λ (x : List ℕ). total x + c.loop-i.left) (sym (take_all c.loop-i.i a.lens.now c.loop-i-test.false)) ∙ c.loop-i.invariant.1)
+returns c = eqb_shift _ c.loop-n.left c.args.used (ap (λ (x : List ℕ). total x + c.loop-n.left) (sym (take_all c.loop-n.n-index c.args.lens.now c.loop-n-test.false)) ∙ c.loop-n.invariant)

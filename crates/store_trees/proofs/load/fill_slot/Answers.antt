@@ -4,37 +4,48 @@ use Prim.Native.Nat.{◌+◌, ◌*◌, ◌≤◌}
 use native.Mathlib.Omega.{arith}
 use Rattle.store_trees.proofs.Loads.{takes, no_bytes, counts_fit, bytes_fit, filled}
 use Rattle.store_trees.proofs.load.fill_slot.Goals as goal
+use Rattle.store_trees.proofs.load.fill_slot.Goals.{Start}
+use lib.ListN.{length}
 
-size : (c : goal.After-shared_slice_known-3-1) → c.args.entries * (2 + c.args.width) + c.args.name_bytes ≤ 1024 * (2 + c.args.width) + 16384
-size c = let a = c.args in omega (arith, bytes_fit a.width a.raw.now a.entries a.name_bytes c.requires.4 a.r a.plens.now a.paths.now a.tlens.now a.trees.now c.requires.0 a.slot c.requires.2 c.requires.3 c.requires.5, c.requires.0.trees_room)
+bytes_room : (c : Start) → c.args.s.now.ed.trees + (c.args.size.entries * (2 + c.args.width) + c.args.size.name_bytes) ≤ length c.args.s.now.trees.now
+bytes_room c =
+    let a = c.args in
+    let s = c.args.s.now in bytes_fit a.width a.raw.now a.size.entries a.size.name_bytes c.requires.4 s.ed s.plens.now s.paths.now s.tlens.now s.trees.now c.requires.0 a.slot c.requires.2 c.requires.3 c.requires.5
 
 pub overflow_mul-n : goal.overflow_mul-n
-overflow_mul-n c = omega (arith, size c, c.requires.1)
+overflow_mul-n c = omega (arith, bytes_room (goal.at.overflow_mul-n c).Start, c.requires.0.trees_room, c.requires.1)
 
 pub overflow_add-n-2 : goal.overflow_add-n-2
-overflow_add-n-2 c = omega (arith, size c, c.requires.1)
+overflow_add-n-2 c = omega (arith, bytes_room (goal.at.overflow_add-n-2 c).Start, c.requires.0.trees_room, c.requires.1)
 
 pub fill-requires : goal.fill-requires
 fill-requires c =
     let a = c.args in
-    (c.requires.0.trees_sound, omega (arith, c.requires.0.tlens_64, c.requires.2.low), no_bytes a.width a.raw.now a.entries a.name_bytes c.requires.4 a.r a.plens.now a.paths.now a.tlens.now a.trees.now c.requires.0 a.slot c.requires.2 c.requires.3, bytes_fit a.width a.raw.now a.entries a.name_bytes c.requires.4 a.r a.plens.now a.paths.now a.tlens.now a.trees.now c.requires.0 a.slot c.requires.2 c.requires.3 c.requires.5, takes a.width a.raw.now a.entries a.name_bytes c.requires.4)
+    let s = c.args.s.now in
+    (c.requires.0.trees_sound, omega (arith, c.requires.0.tlens_64, c.requires.2.low), no_bytes a.width a.raw.now a.size.entries a.size.name_bytes c.requires.4 s.ed s.plens.now s.paths.now s.tlens.now s.trees.now c.requires.0 a.slot c.requires.2 c.requires.3, bytes_room (goal.at.fill-requires c).Start, takes a.width a.raw.now a.size.entries a.size.name_bytes c.requires.4)
 
-counts : (c : goal.After-struct_known-1) → (c.args.r.entries + c.args.entries ≤ 1024) × (c.args.r.names + c.args.name_bytes ≤ 16384)
-counts c = let a = c.args in counts_fit a.width a.raw.now a.entries a.name_bytes c.requires.4 a.r a.plens.now a.paths.now a.tlens.now a.trees.now c.requires.0 a.slot c.requires.2 c.requires.3 c.requires.5
-
-pub overflow_add-more : goal.overflow_add-more
-overflow_add-more c = omega (arith, counts c)
-
-counts-2 : (c : goal.After-struct_known-2-1) → (c.args.r.entries + c.args.entries ≤ 1024) × (c.args.r.names + c.args.name_bytes ≤ 16384)
-counts-2 c = let a = c.args in counts_fit a.width a.raw.now a.entries a.name_bytes c.requires.4 a.r a.plens.now a.paths.now a.tlens.now a.trees.now c.requires.0 a.slot c.requires.2 c.requires.3 c.requires.5
+counts : (c : Start) → (c.args.s.now.ed.entries + c.args.size.entries ≤ 1024) × (c.args.s.now.ed.names + c.args.size.name_bytes ≤ 16384)
+counts c =
+    let a = c.args in
+    let s = c.args.s.now in counts_fit a.width a.raw.now a.size.entries a.size.name_bytes c.requires.4 s.ed s.plens.now s.paths.now s.tlens.now s.trees.now c.requires.0 a.slot c.requires.2 c.requires.3 c.requires.5
 
 pub overflow_add-bytes : goal.overflow_add-bytes
-overflow_add-bytes c = omega (arith, counts-2 c)
+overflow_add-bytes c = omega (arith, counts (goal.at.overflow_add-bytes c).Start)
 
-pub returns : goal.returns
-returns c =
+pub overflow_add-s : goal.overflow_add-s
+overflow_add-s c = omega (arith, bytes_room (goal.at.overflow_add-s c).Start, c.requires.0.trees_room, c.requires.1)
+
+pub overflow_add-s-2 : goal.overflow_add-s-2
+overflow_add-s-2 c = omega (arith, counts (goal.at.overflow_add-s-2 c).Start)
+
+pub returns-clause-edited : goal.returns-clause-edited
+returns-clause-edited c t e =
     let a = c.args in
-    filled a.width a.raw.now a.entries a.name_bytes c.requires.4 a.r a.plens.now a.paths.now a.tlens.now a.trees.now c.requires.0 a.slot c.requires.2 c.requires.3
-    (record { free = a.r.free; hidden = a.r.hidden; paths = a.r.paths; trees = a.r.trees + (a.entries * (2 + a.width) + a.name_bytes); entries = a.r.entries + a.entries; names = a.r.names + a.name_bytes; «open» = a.r.«open»; aside = a.r.aside; stacked = a.r.stacked; asked = a.r.asked })
-    c.fill.new.lens c.fill.new.bytes c.fill.ensures.view c.fill.auto.lens c.fill.auto.bytes c.fill.ensures.sound
-    (record { free = refl; hidden = refl; paths = refl; write = record { «open» = refl; aside = refl; stacked = refl; asked = refl } }) refl refl
+    let s = c.args.s.now in
+    record {
+      edit = filled a.width a.raw.now a.size.entries a.size.name_bytes c.requires.4 s.ed s.plens.now s.paths.now s.tlens.now s.trees.now c.requires.0 a.slot c.requires.2 c.requires.3 _
+          c.fill.new.lens c.fill.new.bytes c.fill.ensures.view c.fill.auto.lens c.fill.auto.bytes c.fill.ensures.sound
+          (record { free = refl; hidden = refl; paths = refl; write = record { «open» = refl; aside = refl; stacked = refl; asked = refl } }) refl refl t e;
+      keys = record { plens = refl; paths = refl };
+      lent = record { plens = refl; paths = refl; tlens = refl; trees = refl };
+    }

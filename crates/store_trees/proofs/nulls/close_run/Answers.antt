@@ -14,6 +14,7 @@ use Rattle.store_trees.proofs.Gaps.{put_mid_lem}
 use borrow.Rule.Slice.PartMut.{put_mid}
 use Rattle.store_trees.proofs.NullLaws.{run_long, run_ends, left_fits, closed_fewer, back_sound, closed_view}
 use Rattle.store_trees.proofs.nulls.close_run.Goals as goal
+use Rattle.store_trees.proofs.nulls.close_run.Goals.{After-close_up-left}
 
 pub overflow_add-e : goal.overflow_add-e
 overflow_add-e c =
@@ -38,69 +39,51 @@ close_up-left-requires c =
     (subst (Run a.width) (sym (lent c ∙ sym (cut_at a.lens.now a.bytes.now a.k c.requires.1))) c.requires.2, c.requires.3)
 
 -- the part that is lent is the run
-lent-2 : (c : goal.After-remove-arg-2-1) → take (c.start-a.result + get_or c.args.lens.now c.args.k 0 - c.start-a.result) (drop c.start-a.result c.args.bytes.now) ≡ run_of c.args.lens.now c.args.bytes.now c.args.k
+lent-2 : (c : After-close_up-left) → take (c.start-a.result + get_or c.args.lens.now c.args.k 0 - c.start-a.result) (drop c.start-a.result c.args.bytes.now) ≡ run_of c.args.lens.now c.args.bytes.now c.args.k
 lent-2 c =
     let a = c.args in
     let n : c.start-a.result + get_or a.lens.now a.k 0 - c.start-a.result ≡ get_or a.lens.now a.k 0 = omega arith in
     ap₂ (λ (y z : ℕ). take y (drop z a.bytes.now)) n c.start-a.ensures
 
 -- what is left of the run
-closed : (c : goal.After-remove-arg-2-1) → (take c.close_up-left.result.used c.close_up-left.new.run ≡ packed_all (without_id (null c.args.width) (unpack c.args.width (run_of c.args.lens.now c.args.bytes.now c.args.k)))) × Fewer c.args.width (run_of c.args.lens.now c.args.bytes.now c.args.k) (length (run_of c.args.lens.now c.args.bytes.now c.args.k)) c.close_up-left.result
+closed : (c : After-close_up-left) → (take c.close_up-left.result.used c.close_up-left.new.run ≡ packed_all (without_id (null c.args.width) (unpack c.args.width (run_of c.args.lens.now c.args.bytes.now c.args.k)))) × Fewer c.args.width (run_of c.args.lens.now c.args.bytes.now c.args.k) (length (run_of c.args.lens.now c.args.bytes.now c.args.k)) c.close_up-left.result
 closed c =
     let w = c.args.width in
     subst (λ (b : List ℕ). (take c.close_up-left.result.used c.close_up-left.new.run ≡ packed_all (without_id (null w) (unpack w b))) × Fewer w b (length b) c.close_up-left.result) (lent-2 c) (c.close_up-left.ensures.front, c.close_up-left.ensures.counts)
 
-size : (c : goal.After-remove-arg-2-1) → length c.close_up-left.new.run ≡ get_or c.args.lens.now c.args.k 0
+size : (c : After-close_up-left) → length c.close_up-left.new.run ≡ get_or c.args.lens.now c.args.k 0
 size c =
     let a = c.args in
     c.close_up-left.auto.run ∙ ap length (lent-2 c) ∙ run_long a.width a.lens.now a.bytes.now a.used a.k c.requires.0 c.requires.1
 
-pub overflow_sub-n : goal.overflow_sub-n
-overflow_sub-n c =
-    let a = c.args in
-    left_fits a.width a.lens.now a.bytes.now a.used a.k c.requires.0 c.requires.1 c.close_up-left.new.run c.close_up-left.result (size c) (closed c).1
-
 -- the slice with the run closed up
-back : (c : goal.After-remove-arg-2-1) → put_mid c.start-a.result (c.start-a.result + get_or c.args.lens.now c.args.k 0 - c.start-a.result) c.args.bytes.now c.close_up-left.new.run ≡ splice c.args.bytes.now (total (take c.args.k c.args.lens.now)) c.close_up-left.new.run
+back : (c : After-close_up-left) → put_mid c.start-a.result (c.start-a.result + get_or c.args.lens.now c.args.k 0 - c.start-a.result) c.args.bytes.now c.close_up-left.new.run ≡ splice c.args.bytes.now (total (take c.args.k c.args.lens.now)) c.close_up-left.new.run
 back c =
     let a = c.args in
     let n : get_or a.lens.now a.k 0 ≡ c.start-a.result + get_or a.lens.now a.k 0 - c.start-a.result = omega arith in
     put_mid_lem a.bytes.now c.close_up-left.new.run c.start-a.result (c.start-a.result + get_or a.lens.now a.k 0 - c.start-a.result) (size c ∙ n) ∙ ap (λ (x : ℕ). splice a.bytes.now x c.close_up-left.new.run) c.start-a.ensures
 
-pub remove-t-requires : goal.remove-t-requires
-remove-t-requires c =
-    let a = c.args in (
-      back_sound a.width a.lens.now a.bytes.now a.used a.k c.requires.0 c.requires.1 c.close_up-left.new.run c.close_up-left.result (size c) (closed c).1 _ (back c),
+pub overflow_sub-n : goal.overflow_sub-n
+overflow_sub-n c =
+    let a = c.args in
+    let p = (goal.at.overflow_sub-n c).After-close_up-left in
+    left_fits a.width a.lens.now a.bytes.now a.used a.k c.requires.0 c.requires.1 c.close_up-left.new.run c.close_up-left.result (size p) (closed p).1
+
+pub remove-requires : goal.remove-requires
+remove-requires c =
+    let a = c.args in
+    let p = (goal.at.remove-requires c).After-close_up-left in (
+      back_sound a.width a.lens.now a.bytes.now a.used a.k c.requires.0 c.requires.1 c.close_up-left.new.run c.close_up-left.result (size p) (closed p).1 _ (back p),
       c.requires.1,
-      omega (arith, left_fits a.width a.lens.now a.bytes.now a.used a.k c.requires.0 c.requires.1 c.close_up-left.new.run c.close_up-left.result (size c) (closed c).1),
+      omega (arith, left_fits a.width a.lens.now a.bytes.now a.used a.k c.requires.0 c.requires.1 c.close_up-left.new.run c.close_up-left.result (size p) (closed p).1),
     )
-
--- the part that is lent is the run
-lent-3 : (c : goal.After-slice_known-6-1) → take (c.start-a.result + get_or c.args.lens.now c.args.k 0 - c.start-a.result) (drop c.start-a.result c.args.bytes.now) ≡ run_of c.args.lens.now c.args.bytes.now c.args.k
-lent-3 c =
-    let a = c.args in
-    let n : c.start-a.result + get_or a.lens.now a.k 0 - c.start-a.result ≡ get_or a.lens.now a.k 0 = omega arith in
-    ap₂ (λ (y z : ℕ). take y (drop z a.bytes.now)) n c.start-a.ensures
-
--- what is left of the run
-closed-2 : (c : goal.After-slice_known-6-1) → (take c.close_up-left.result.used c.close_up-left.new.run ≡ packed_all (without_id (null c.args.width) (unpack c.args.width (run_of c.args.lens.now c.args.bytes.now c.args.k)))) × Fewer c.args.width (run_of c.args.lens.now c.args.bytes.now c.args.k) (length (run_of c.args.lens.now c.args.bytes.now c.args.k)) c.close_up-left.result
-closed-2 c =
-    let w = c.args.width in
-    subst (λ (b : List ℕ). (take c.close_up-left.result.used c.close_up-left.new.run ≡ packed_all (without_id (null w) (unpack w b))) × Fewer w b (length b) c.close_up-left.result) (lent-3 c) (c.close_up-left.ensures.front, c.close_up-left.ensures.counts)
-
-size-2 : (c : goal.After-slice_known-6-1) → length c.close_up-left.new.run ≡ get_or c.args.lens.now c.args.k 0
-size-2 c =
-    let a = c.args in
-    c.close_up-left.auto.run ∙ ap length (lent-3 c) ∙ run_long a.width a.lens.now a.bytes.now a.used a.k c.requires.0 c.requires.1
-
--- the slice with the run closed up
-back-2 : (c : goal.After-slice_known-6-1) → put_mid c.start-a.result (c.start-a.result + get_or c.args.lens.now c.args.k 0 - c.start-a.result) c.args.bytes.now c.close_up-left.new.run ≡ splice c.args.bytes.now (total (take c.args.k c.args.lens.now)) c.close_up-left.new.run
-back-2 c =
-    let a = c.args in
-    let n : get_or a.lens.now a.k 0 ≡ c.start-a.result + get_or a.lens.now a.k 0 - c.start-a.result = omega arith in
-    put_mid_lem a.bytes.now c.close_up-left.new.run c.start-a.result (c.start-a.result + get_or a.lens.now a.k 0 - c.start-a.result) (size-2 c ∙ n) ∙ ap (λ (x : ℕ). splice a.bytes.now x c.close_up-left.new.run) c.start-a.ensures
 
 pub returns : goal.returns
 returns c =
     let a = c.args in
-    record { view = closed_view a.width a.lens.now a.bytes.now a.used a.k c.requires.0 c.requires.1 c.close_up-left.new.run c.close_up-left.result (size-2 c) (closed-2 c).1 _ (back-2 c) (closed-2 c).0 c.remove-t.new.lens c.remove-t.new.bytes c.remove-t.ensures.view; sound = c.remove-t.ensures.sound.0; counts = closed_fewer a.width a.lens.now a.bytes.now a.used a.k c.requires.0 c.requires.1 c.close_up-left.new.run c.close_up-left.result (size-2 c) (closed-2 c).1 c.remove-t.result c.close_up-left.result.gone c.remove-t.ensures.sound.1 refl }
+    let p = (goal.at.returns c).After-close_up-left in
+    record {
+      view = closed_view a.width a.lens.now a.bytes.now a.used a.k c.requires.0 c.requires.1 c.close_up-left.new.run c.close_up-left.result (size p) (closed p).1 _ (back p) (closed p).0 c.remove.new.lens c.remove.new.bytes c.remove.ensures.view;
+      sound = c.remove.ensures.sound.0;
+      counts = closed_fewer a.width a.lens.now a.bytes.now a.used a.k c.requires.0 c.requires.1 c.close_up-left.new.run c.close_up-left.result (size p) (closed p).1 c.remove.result c.close_up-left.result.gone c.remove.ensures.sound.1 refl;
+    }

@@ -1,15 +1,13 @@
--- `store_trees::nulls::is_null` meets its contract: the bytes so far are zero, so those that are left decide. Assumes nothing.
-use Rattle.store_trees.proofs.NullLaws.{zeros_begin, zeros_end, zeros_other, zeros_more}
+-- `store_trees::nulls::is_null` meets its contract: all bytes are zero. Assumes nothing.
+use mathlib.Core.Path.{◌∙◌}
+use Prim.Native.Nat.{ℕ}
+use lib.Dec.{eqb}
+use Rattle.std.proofs.Common.{rules, tests}
+use Rattle.std.proofs.lemmas.Iterator.{YieldsList-from_slice}
+use Rattle.std.proofs.lemmas.Iterator.Search.{all_from_yields_List}
+use Rattle.store_trees.proofs.NullLaws.{all_zero}
 use Rattle.store_trees.proofs.nulls.is_null.Goals as goal
 
-pub loop-i-init : goal.loop-i-init
-loop-i-init c = zeros_begin _
-
-pub returns-then-id-i-ne0 : goal.returns-then-id-i-ne0
-returns-then-id-i-ne0 c = zeros_other c.loop-i.invariant c.loop-i-test.true c.if-id-i-ne0.true
-
-pub loop-i-preserved : goal.loop-i-preserved
-loop-i-preserved c = zeros_more c.loop-i.invariant c.loop-i-test.true c.if-id-i-ne0.false
-
 pub returns : goal.returns
-returns c = zeros_end c.loop-i.invariant c.loop-i-test.false
+returns c =
+    all_from_yields_List (λ (b : ℕ). eqb b 0) _ _ _ c.all.ensures.ran (YieldsList-from_slice c.args.id.now cc) (λ x b q k. search (rules, tests)) ∙ all_zero c.args.id.now
