@@ -2,10 +2,10 @@
 use mathlib.Core.Path.{◌≡◌, ◌∙◌, sym, ap}
 use Prim.Native.Nat.{ℕ, ◌+◌}
 use native.Mathlib.Omega.{arith}
-use borrow.Author.Tests.{eqb-true, eqb-false}
+use borrow.Author.Tests.{eqb-false}
 use lib.ListN.{get_or}
 use Rattle.store_runs.specs.Digits.{digits}
-use Rattle.store_runs.proofs.DigitLaws.{digit_zero, digit_same, digit_room, digit_add, bit}
+use Rattle.store_runs.proofs.DigitLaws.{digit_zero, digit_room, digit_add, bit}
 use Rattle.store_runs.proofs.bits.set.Goals as goal
 
 -- a slot that is not set has the digit 0
@@ -14,11 +14,6 @@ none c = digit_zero 64 c.args.map c.args.slot c.requires (eqb-false _ _ (sym c.i
 
 pub overflow_add-result : goal.overflow_add-result
 overflow_add-result c = omega (arith, bit c.args.slot c.requires, digit_room 64 c.args.map c.args.slot c.requires c.ranges.map.fits (none c))
-
-pub returns-then-is_set : goal.returns-then-is_set
-returns-then-is_set c =
-    let one : get_or (digits 64 c.args.map) c.args.slot 0 ≡ 1 = eqb-true _ _ (sym c.is_set.ensures ∙ c.if-is_set.true) in
-    (digit_same (digits 64 c.args.map) c.args.slot one, λ z. absurd (omega (arith, one, z)))
 
 pub returns-else-is_set : goal.returns-else-is_set
 returns-else-is_set c =

@@ -1,8 +1,7 @@
 -- `store_runs::runs::run` meets its contract, by the law of an edit of one run. Assumes nothing.
-use mathlib.Core.Path.{◌≡◌, ap₂}
-use Prim.Native.Nat.{ℕ, ◌+◌, ◌-◌, ◌≤◌}
+use Prim.Native.Nat.{◌+◌, ◌≤◌}
 use native.Mathlib.Omega.{arith}
-use lib.ListN.{take, drop, get_or}
+use lib.ListN.{take, get_or}
 use Rattle.store_runs.specs.Runs.{total}
 use Rattle.store_runs.proofs.RunLaws.{total_within}
 use Rattle.store_runs.proofs.runs.run.Goals as goal
@@ -20,9 +19,3 @@ pub slice_bounds-result-end : goal.slice_bounds-result-end
 slice_bounds-result-end c =
     let w = within c in
     omega (arith, c.start-a.ensures)
-
-pub returns : goal.returns
-returns c =
-    let a = c.args in
-    let e : c.start-a.result + get_or a.lens.now a.k 0 - c.start-a.result ≡ get_or a.lens.now a.k 0 = omega arith in
-    ap₂ (λ (x y : ℕ). take x (drop y a.bytes.now)) e c.start-a.ensures

