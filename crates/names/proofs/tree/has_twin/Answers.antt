@@ -6,11 +6,8 @@ use mathlib.Core.Path.{◌∙◌}
 use Rattle.names.proofs.OrderLaws.{keys_said}
 use Rattle.names.proofs.CheckLaws.{raw_damaged, raw_reach, raw_begins, raw_key_lem}
 use Rattle.names.proofs.EntriesLaws.{entries_end}
-use Rattle.names.proofs.FitLaws.{twin_begin, twin_end, twin_damaged, twin_less, twin_equal, twin_greater}
+use Rattle.names.proofs.FitLaws.{twin_end, twin_damaged, twin_less, twin_equal, twin_greater}
 use Rattle.names.proofs.tree.has_twin.Goals as goal
-
-pub loop-at-init : goal.loop-at-init
-loop-at-init c = twin_begin _ _
 
 pub returns-in_default : goal.returns-in_default
 returns-in_default c = twin_damaged c.loop-at.invariant (raw_damaged _ _ _ c.read_entry.ensures c.loop-at-test.true (search rules))
