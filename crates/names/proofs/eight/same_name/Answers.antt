@@ -1,9 +1,7 @@
 -- `names::eight::same_name` meets its contract: two blocks of eight bytes cover names of at most sixteen. Assumes nothing.
-use borrow.Author.Tests.{ne_eqb}
-use mathlib.Core.Path.{◌∙◌}
 use native.Mathlib.Omega.{arith}
 use Rattle.names.proofs.OrderLaws.{other_length}
-use Rattle.names.proofs.EightLaws.{other_block, blocks_tell}
+use Rattle.names.proofs.EightLaws.{blocks_tell}
 use Rattle.names.proofs.eight.same_name.Goals as goal
 
 pub returns-then-a-b : goal.returns-then-a-b
@@ -15,6 +13,3 @@ returns-then-low_at c =
     let k = c.if-a-lt8.false in
     let n = c.if-a-gt16.false in
     blocks_tell c.low_at.ensures c.low_at-2.ensures c.low_at-then-low_at.ensures c.low_at-then-low_at-2.ensures (omega arith) (omega arith) (omega arith) c.if-low_at.true
-
-pub returns-else-low_at : goal.returns-else-low_at
-returns-else-low_at c = ne_eqb _ _ c.if-low_at.false ∙ other_block c.low_at.ensures c.low_at-2.ensures c.if-low_at.false

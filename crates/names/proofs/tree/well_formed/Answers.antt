@@ -24,16 +24,6 @@ loop-at-preserved c =
     c.key-key.ensures.name c.key-key.ensures.tree c.may_follow.ensures
     (raw_short _ _ _ c.read_entry.ensures c.in_ok-e.was c.key-key.ensures.name) (raw_reach _ _ _ c.read_entry.ensures c.in_ok-e.was).inside c.if-not-may_follow.false
 
-pub overflow_add-entries : goal.overflow_add-entries
-overflow_add-entries c =
-    let w = loop-at-preserved c in
-    omega arith
-
-pub overflow_add-name_bytes : goal.overflow_add-name_bytes
-overflow_add-name_bytes c =
-    let w = loop-at-preserved c in
-    omega arith
-
 pub loop-at-smaller : goal.loop-at-smaller
 loop-at-smaller c =
     let x = raw_reach _ _ _ c.read_entry.ensures c.in_ok-e.was in
