@@ -2,7 +2,7 @@
 use mathlib.Core.Path.{◌≡◌, refl, sym, ap, ap₂, ◌∙◌}
 use mathlib.Core.Bool.{Bool, true, false, not, ◌&&◌, cond}
 use mathlib.Core.List.{List, [], ◌∷◌}
-use Prim.Native.Nat.{ℕ, suc, ◌+◌, ◌*◌, ◌<◌}
+use Prim.Native.Nat.{ℕ, suc, ◌+◌, ◌*◌}
 use native.Mathlib.Omega.{arith}
 use native.Mathlib.Nat.{suc-mul}
 use lib.Dec.{eqb}
@@ -10,20 +10,19 @@ use borrow.Author.Tests.{eqb-true}
 use lib.ListN.{length, get_or}
 use Rattle.model.specs.Bytes.{is_nil}
 use Rattle.model.specs.Tree.{Tree, name_bytes, without_id, null}
-use Rattle.model.specs.Editor.{Held}
 use Rattle.model.specs.Valid.{has_parent}
 use Rattle.model.specs.Write.{Going}
-use Rattle.model.proofs.Basics.{no_way, and_right, not_true}
+use Rattle.model.proofs.Basics.{and_right, not_true}
 use Rattle.store_runs.specs.Digits.{digits}
-use Rattle.store_slots.specs.View.{Laid, Used, path_of, tree_of, held_at, aside_of, stacked_of}
+use Rattle.store_slots.specs.View.{Laid, Used, path_of, tree_of, held_at, aside_of}
 use Rattle.store_slots.specs.declared.Record.{Record}
 use Rattle.store_slots.proofs.Changes.{tree_size}
 use Rattle.store_entries.specs.Entries.{Edited}
 use Rattle.store_taken.specs.Taken.{going_of, Between}
 use Rattle.store_taken.proofs.Ends.{dropped_going}
-use Rattle.editor_write_steps.specs.Writes.{unlinked_on, step_of, finished_as, goes, asks, Hand, Child}
+use Rattle.editor_write_steps.specs.Writes.{unlinked_on, finished_as, goes, asks, Hand, Child}
 use Rattle.editor_write_steps.proofs.LinkLaws.{between_kept}
-use Rattle.editor_write_steps.proofs.TurnLaws.{stack_long, kept_long}
+use Rattle.editor_write_steps.proofs.TurnLaws.{kept_long}
 
 nil_zero : {A : Type 0} (l : List A) → eqb (length l) 0 ≡ is_nil l
 nil_zero [] = refl
@@ -76,7 +75,7 @@ module _ (w : ℕ) (r : Record) (plens paths tlens trees : List ℕ) (L : Laid w
       parent = ap (λ (g : Going). has_parent (path_of plens paths slot) g.kept) (null_going order h.between) ∙ h.parent (not_true (is_nil (aside_of w r plens paths tlens trees order)) (and_right (is_nil (without_id (null w) (tree_of w tlens trees slot))) (not (is_nil (aside_of w r plens paths tlens trees order))) e));
     }
 
-    pub null_asked : test ≡ false → step_of true (held_at w plens paths tlens' trees' slot) (going_of w q plens paths tlens' trees' order) ≡ finished_as (null w) (held_at w plens paths tlens trees slot) (going_of w r plens paths tlens trees order)
+    pub null_asked : test ≡ false → asks (held_at w plens paths tlens' trees' slot) (going_of w q plens paths tlens' trees' order) ≡ finished_as (null w) (held_at w plens paths tlens trees slot) (going_of w r plens paths tlens trees order)
     null_asked e =
         let g = going_of w r plens paths tlens trees order in
         let t = without_id (null w) (tree_of w tlens trees slot) in
@@ -89,18 +88,3 @@ module _ (w : ℕ) (r : Record) (plens paths tlens trees : List ℕ) (L : Laid w
         let t = without_id (null w) (tree_of w tlens trees slot) in
         ap goes (f ∙ ap (unlinked_on (path_of plens paths slot)) (null_going order h.between))
         ∙ ap (λ (b : Bool). cond b (goes (unlinked_on (path_of plens paths slot) g)) (asks (record { path = path_of plens paths slot; held = t }) g)) (sym e)
-
--- a tree is stacked or set aside
-some_long_lem : (s k : List Held) → (is_nil s && is_nil k) ≡ false → 0 < length s + length k
-some_long_lem [] [] e = no_way e
-some_long_lem [] (x ∷ k) e = omega arith
-some_long_lem (x ∷ s) k e = omega arith
-
-pub some_there : (w : ℕ) (r : Record) (plens paths tlens trees order : List ℕ) → Between r order [] → (is_nil (stacked_of w r plens paths tlens trees order) && is_nil (aside_of w r plens paths tlens trees order)) ≡ false → 0 < r.aside + r.stacked
-some_there w r plens paths tlens trees order b e =
-    omega (
-      arith,
-      some_long_lem (stacked_of w r plens paths tlens trees order) (aside_of w r plens paths tlens trees order) e,
-      stack_long r order [] b w plens paths tlens trees,
-      kept_long r order [] b w plens paths tlens trees,
-    )

@@ -1,5 +1,6 @@
 -- The parent of a tree in hand is set aside, and it alone is at its path, so an edit of it changes just one of the trees set aside. Assumes nothing.
 use mathlib.Core.Path.{◌≡◌, refl, sym, ap, ap₂, ◌∙◌, subst}
+use Rattle.std.specs.Prelude.{Option, Some, None, unwrap_or}
 use mathlib.Core.Bool.{Bool, true, false, not, ◌&&◌, ◌||◌, cond}
 use mathlib.Core.List.{List, [], ◌∷◌, ◌++◌, map, reverse, reverse-cons}
 use Prim.Native.Nat.{ℕ, zero, suc, ◌-◌, ◌<◌, compare, Ordering}
@@ -19,11 +20,9 @@ use Rattle.model.proofs.ByteLaws.{same_eq, same_refl, same_of, has_here, has_pas
 use Rattle.store_runs.specs.Digits.{digits}
 use Rattle.store_runs.specs.Runs.{cut}
 use Rattle.store_runs.specs.Find.{find_from}
-use Rattle.store_runs.specs.declared.runs.Found.{Found}
-use Rattle.store_runs.specs.declared.runs.Found.TheVariants.{At, Nothing}
 use Rattle.store_runs.proofs.DigitLaws.{length_digits}
 use Rattle.store_runs.proofs.RunLaws.{length_cut}
-use Rattle.store_slots.specs.View.{if_used, held_in, slots_of, SlotIs, Laid, Used, SameWrite, path_of, tree_of, held_at, cached_of, aside_of, stacked_of, all_different}
+use Rattle.store_slots.specs.View.{if_used, held_in, slots_of, SlotIs, Laid, Used, path_of, tree_of, held_at, cached_of, aside_of, stacked_of, all_different}
 use Rattle.store_slots.proofs.Where.{slot_is}
 use Rattle.store_slots.specs.declared.Record.{Record}
 use Rattle.store_entries.specs.Entries.{Kept, Edited}
@@ -186,9 +185,6 @@ change_map : (q : Bytes) (f : Tree → Tree) (g : ℕ → Held) (l : List ℕ) �
 change_map q f g [] = refl
 change_map q f g (x ∷ l) = ap (λ (m : List Held). cond (same (g x).path q) (record { path = (g x).path; held = f (g x).held }) (g x) ∷ m) (change_map q f g l)
 
-pub write_more : {r q s : Record} → SameWrite r q → SameWrite q s → SameWrite r s
-write_more a b = record { «open» = b.«open» ∙ a.«open»; aside = b.aside ∙ a.aside; stacked = b.stacked ∙ a.stacked; asked = b.asked ∙ a.asked }
-
 pub between_kept : (r q : Record) (order hand : List ℕ) → Kept r q → Between r order hand → Between q order hand
 between_kept r q order hand k b = record {
   order_64 = b.order_64;
@@ -283,18 +279,15 @@ module _ (w : ℕ) (r : Record) (plens paths tlens trees : List ℕ) (L : Laid w
   unfolding linked
   link_going i q tlens' trees' E = parent_going (λ t. with_entry (record { mode = TREE; name = base (path_of plens paths slot); id = i }) t) q tlens' trees' E
 
--- a slot that was found at a path
-pub found_slot : (r : Record) (plens paths : List ℕ) (p : Bytes) (f : Found) (k : ℕ) → length plens ≡ 64 → f ≡ find_from 0 (digits 64 r.free) (cut plens paths) p → f ≡ At k → Used r k × (path_of plens paths k ≡ p)
-found_slot r plens paths p f k l e g =
-    let d = length_digits 64 r.free in
-    let n = length_cut plens paths ∙ l ∙ sym d in
-    let x = subst (SlotIs 0 (digits 64 r.free) (cut plens paths) (cut plens paths) p) (sym e ∙ g) (slot_is 0 r.free (cut plens paths) (cut plens paths) p n n) in
-    (record { low = omega (arith, d, x.0); used = x.1 }, x.2)
+-- the slot at a path where some used one is
+pub slot_at : (r : Record) (plens paths : List ℕ) (p : Bytes) (f : Option ℕ) (d : ℕ) → length plens ≡ 64 → f ≡ find_from 0 (digits 64 r.free) (cut plens paths) p →
+    (j : ℕ) × Used r j × (path_of plens paths j ≡ p) → Used r (unwrap_or f d) × (path_of plens paths (unwrap_or f d) ≡ p)
+slot_at r plens paths p f d l e x = go f (subst (SlotIs 0 (digits 64 r.free) (cut plens paths) (cut plens paths) p) (sym e) (slot_is 0 r.free (cut plens paths) (cut plens paths) p n n))
+  where
+    n : length (cut plens paths) ≡ length (digits 64 r.free)
+    n = length_cut plens paths ∙ l ∙ sym (length_digits 64 r.free)
 
--- some slot is found where a used one is
-pub some_slot : {B : Type 0} (r : Record) (plens paths : List ℕ) (p : Bytes) (f : Found) (j : ℕ) → length plens ≡ 64 → f ≡ find_from 0 (digits 64 r.free) (cut plens paths) p → f ≡ Nothing → Used r j → path_of plens paths j ≡ p → B
-some_slot r plens paths p f j l e g u q =
-    let d = length_digits 64 r.free in
-    let n = length_cut plens paths ∙ l ∙ sym d in
-    let x = subst (SlotIs 0 (digits 64 r.free) (cut plens paths) (cut plens paths) p) (sym e ∙ g) (slot_is 0 r.free (cut plens paths) (cut plens paths) p n n) in
-    no_way (sym (path_among 0 r plens paths (cut plens paths) j (l) (length_cut plens paths ∙ l) u) ∙ ap (λ (y : Bytes). among y (map at (slots_of 0 (digits 64 r.free) (cut plens paths) (cut plens paths)))) q ∙ x.1)
+    go : (f : Option ℕ) → SlotIs 0 (digits 64 r.free) (cut plens paths) (cut plens paths) p f → Used r (unwrap_or f d) × (path_of plens paths (unwrap_or f d) ≡ p)
+    go (Some k) y = (record { low = omega (arith, length_digits 64 r.free, y.0); used = y.1 }, y.2)
+    go None y =
+        no_way (sym (path_among 0 r plens paths (cut plens paths) x.0 l (length_cut plens paths ∙ l) x.1) ∙ ap (λ (q : Bytes). among q (map at (slots_of 0 (digits 64 r.free) (cut plens paths) (cut plens paths)))) x.2 ∙ y.1)

@@ -2,13 +2,14 @@
 use mathlib.Core.Path.{◌≡◌, refl, sym, ap, ap₂, ◌∙◌}
 use mathlib.Core.Bool.{true, ◌&&◌}
 use mathlib.Core.Option.{none, some}
-use mathlib.Core.List.{[], ◌∷◌}
-use Prim.Native.Nat.{ℕ, ◌+◌, Ordering}
+use mathlib.Core.List.{List, [], ◌∷◌}
+use Prim.Native.Nat.{ℕ, ◌+◌, ◌≤◌, Ordering}
 use lib.Dec.{leb}
 use lib.ListN.{length}
 use Rattle.model.specs.Bytes.{Bytes, cmp, by}
 use Rattle.model.specs.Map.{find, put}
 use Rattle.model.specs.Tree.{TREE, Tree, as_kind, entry_of, with_entry, good_name, well_formed, name_bytes}
+use Rattle.model.specs.Paths.{base}
 use Rattle.model.specs.Editor.{Held, at, Cache, entry_count, name_count, path_count, fits}
 use Rattle.model.specs.Valid.{is_tree_entry}
 use Rattle.model.proofs.Basics.{none_some, some_inj}
@@ -17,6 +18,12 @@ use Rattle.model.proofs.SoundTrees.{total, sound_well, name_of}
 use Rattle.model.proofs.RoomCounts.{found_at, trees_total, entries_total, names_total, paths_total}
 use Rattle.model.proofs.RawLaws.{well_entries}
 use Rattle.model.proofs.WriteKeepsTrees.{good_find, is_some, set_keeps}
+use Rattle.model.proofs.DirBaseLaws.{base_plain}
+use Rattle.names_compact.proofs.CompactLaws.{name_short}
+use Rattle.store_slots.specs.View.{Laid, path_of, tree_of}
+use Rattle.store_slots.specs.declared.Record.{Record}
+use Rattle.editor_write_steps.specs.Writes.{Child}
+use Rattle.editor_write_steps.proofs.LinkLaws.{parent_there}
 
 -- a tree put in the place of one that weighs the same
 total_same : (f : Held → ℕ) (a x : Held) (l : Cache) → f a ≡ f x → find at a.path l ≡ some x → total f (put at a l) ≡ total f l
@@ -55,3 +62,10 @@ module _ (w : ℕ) (n : Bytes) (pn : Plain n) (t : Tree) (wt : well_formed w t �
   set_fits p i c e f =
       let k = set_keeps w n pn t wt h i in
       same_fits p t (with_entry (record { mode = TREE; name = n; id = i }) t) c k.entries k.names e f
+
+-- the name of a tree whose parent is set aside is short
+pub child_short : (w : ℕ) (r : Record) (plens paths tlens trees : List ℕ) → Laid w r plens paths tlens trees → (slot : ℕ) (order : List ℕ) → Child w r plens paths tlens trees order slot → length (base (path_of plens paths slot)) ≤ 255
+child_short w r plens paths tlens trees L slot order c =
+    let p = path_of plens paths slot in
+    let (j, x) = parent_there w r plens paths tlens trees order (slot ∷ []) p c.between c.parent in
+    name_short (base p) (entry_named w (base p) (base_plain p) (tree_of w tlens trees j) (L.well j x.used.low) x.is.entry)
