@@ -9,13 +9,21 @@ use Rattle.model.specs.Editor.{Held, Cache}
 use Rattle.model.specs.Write.{Going, Asking, scanned, unlinked, linked}
 use Rattle.model.specs.Order.{All}
 use Rattle.model.specs.Valid.{has_parent}
-use Rattle.store_slots.specs.View.{path_of, aside_of}
+use Rattle.store_slots.specs.View.{path_of, held_at, aside_of}
 use Rattle.store_slots.specs.declared.Record.{Record}
 use Rattle.store_slots.specs.declared.Store.{Store}
+use Rattle.store_slots.specs.declared.View.{View}
 use Rattle.editor_write_steps.specs.declared.pick.Picked.{Picked}
 use Rattle.editor_write_steps.specs.declared.pick.Picked.TheVariants.{Finish, Aside}
 use Rattle.store_slots.specs.Stores.{held_in_slot}
-use Rattle.store_taken.specs.Taken.{going_in, stacked_on, taken_off, SameSlots, Between}
+use Rattle.store_taken.specs.Taken.{going_in, going_of, stacked_on, taken_off, SameSlots, Between}
+
+-- the path and the tree of a slot, and the write with this record, of a store that is read
+abbrev pub held_seen : ℕ → View → ℕ → Held
+held_seen w v k = held_at w v.plens.now v.paths.now v.tlens.now v.trees.now k
+
+abbrev pub going_seen : ℕ → Record → View → List ℕ → Going
+going_seen w r v order = going_of w r v.plens.now v.paths.now v.tlens.now v.trees.now order
 
 -- a cached tree that was found is taken off the cache and stacked
 abbrev pub kid_on : Maybe Held → Going → Going

@@ -25,7 +25,8 @@ fn parent_of(v: View<'_>, slot: usize) -> usize
 // Writes the name of the tree in a slot to the front of the buffer, and says how long it is.
 fn put_name(name: &mut [u8; NAME], v: View<'_>, slot: usize) -> usize
     requires { KeysSound v × (slot < length v.plens.now) × (length (base (path_of v.plens.now v.paths.now slot)) ≤ 255) }
-    ensures { (result ≡ length (base (path_of v.entry.plens.now v.entry.paths.now slot))) × (take result name.new ≡ base (path_of v.entry.plens.now v.entry.paths.now slot)) }
+    ensures { (result ≡ length (base (path_of v.entry.plens.now v.entry.paths.now slot)))
+        × (take result name.new ≡ base (path_of v.entry.plens.now v.entry.paths.now slot)) }
 {
     names::write::put(name, 0, names::path::filename(v.path_in(slot)))
 }

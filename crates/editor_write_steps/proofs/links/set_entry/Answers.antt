@@ -1,69 +1,38 @@
 -- `editor_write_steps::links::set_entry` meets its contract: the slot found at the parent's path is the parent's, and the new entry takes no room. Assumes nothing.
 use mathlib.Core.Path.{◌≡◌}
 use mathlib.Core.List.{[], ◌∷◌}
-use native.Mathlib.Omega.{arith}
 use lib.ListN.{take}
-use Rattle.model.specs.Paths.{base, dir}
-use Rattle.store_slots.specs.View.{Used}
-use Rattle.store_slots.specs.Stores.{path_in_slot, tree_in_slot, view_in}
-use Rattle.store_slots.proofs.Relaid.{find_slot}
-use Rattle.model.proofs.DirBaseLaws.{base_plain}
-use Rattle.editor_write_steps.proofs.LinkLaws.{parent_there, is_parent, link_going, between_kept}
-use Rattle.editor_write_steps.proofs.LinkRoom.{child_short, entry_named, set_fits}
+use Rattle.model.specs.Paths.{base}
+use Rattle.store_slots.specs.Stores.{path_in_slot}
+use Rattle.editor_write_steps.proofs.LinkLaws.{AtParent, link_going, between_kept}
+use Rattle.editor_write_steps.proofs.LinkRoom.{name_asked, parent_asked, name_good, link_fits}
 use Rattle.editor_write_steps.proofs.links.set_entry.Goals as goal
 use Rattle.editor_write_steps.proofs.links.set_entry.Goals.{After-parent_of-parent}
 
 pub put_name-n-requires : goal.put_name-n-requires
-put_name-n-requires c =
-    let s = c.args.s.now in
-    let e = c.view-v.ensures in
-    rw (e.ed, e.plens, e.paths) (
-      c.requires.0.paths_sound,
-      omega (arith, c.requires.0.plens_64, c.requires.2.1.between.marks.used.0.low),
-      child_short c.args.width s.ed s.plens.now s.paths.now s.tlens.now s.trees.now c.requires.0 c.args.slot c.requires.2.0 c.requires.2.1,
-    )
+put_name-n-requires c = let e = c.view-v.ensures in rw (e.ed, e.plens, e.paths) (name_asked c.args.s.now c.requires.0 c.requires.2.1)
 
 pub parent_of-parent-requires : goal.parent_of-parent-requires
-parent_of-parent-requires c =
-    let s = c.args.s.now in
-    let e = c.view-v.ensures in
-    let (j, p) = parent_there c.args.width s.ed s.plens.now s.paths.now s.tlens.now s.trees.now c.requires.2.0 (c.args.slot ∷ []) (path_in_slot s c.args.slot) c.requires.2.1.between c.requires.2.1.parent in
-    rw (e.ed, e.plens, e.paths) (c.requires.0.paths_sound, c.requires.0.plens_64, c.requires.2.1.between.marks.used.0.low, (j, p.used, p.is.path))
+parent_of-parent-requires c = let e = c.view-v.ensures in rw (e.ed, e.plens, e.paths) (parent_asked c.args.s.now c.requires.0 c.requires.2.1)
 
 -- the name and the parent's slot
 named : (c : After-parent_of-parent) → take c.put_name-n.result c.put_name-n.new.name ≡ base (path_in_slot c.args.s.now c.args.slot)
 named c = let e = c.view-v.ensures in rw (e.plens, e.paths) at c.put_name-n.ensures.1
 
-above : (c : After-parent_of-parent) → Used c.args.s.now.ed c.parent_of-parent.result × (path_in_slot c.args.s.now c.parent_of-parent.result ≡ dir (path_in_slot c.args.s.now c.args.slot))
+above : (c : After-parent_of-parent) → AtParent c.args.s.now c.args.slot c.parent_of-parent.result
 above c = let e = c.view-v.ensures in rw (e.ed, e.plens, e.paths) at c.parent_of-parent.ensures
 
 pub set-requires : goal.set-requires
 set-requires c =
-    let a = c.args in
-    let s = c.args.s.now in
-    let k = c.parent_of-parent.result in
-    let (u, e) = above (goal.at.set-requires c).After-parent_of-parent in
-    let p = is_parent a.width s.ed s.plens.now s.paths.now s.tlens.now s.trees.now c.requires.0 a.slot k u e c.requires.2.0 c.requires.2.1 in
-    let n = base (path_in_slot s a.slot) in
-    let bp = base_plain (path_in_slot s a.slot) in
-    let t = tree_in_slot a.width s k in
-    let well = c.requires.0.well k u.low in
-    rw (named (goal.at.set-requires c).After-parent_of-parent) (
-      c.requires.0,
-      c.requires.1,
-      u,
-      c.requires.3,
-      entry_named a.width n bp t well p.is.entry,
-      set_fits a.width n bp t well p.is.entry (path_in_slot s k) a.id.now (view_in a.width s) (find_slot a.width s.ed s.plens.now s.paths.now s.tlens.now s.trees.now c.requires.0 k u.low u.used) c.requires.4,
-    )
+    let d = (goal.at.set-requires c).After-parent_of-parent in
+    let u = above d in
+    let h = c.requires.2.1 in
+    rw (named d) (c.requires.0, c.requires.1, u.0, c.requires.3, name_good c.args.s.now c.requires.0 h u, link_fits c.args.s.now c.requires.0 h u c.args.id.now c.requires.4)
 
 pub returns-clause-going : goal.returns-clause-going
 returns-clause-going c =
-    let s = c.args.s.now in
-    let q = c.set.new.s in
-    let e = c.set.ensures in
-    let p = above (goal.at.returns-clause-going c).After-parent_of-parent in
-    rw (e.keys.plens, e.keys.paths) (link_going c.args.width s.ed s.plens.now s.paths.now s.tlens.now s.trees.now c.requires.0 c.args.slot c.parent_of-parent.result p.0 p.1 c.args.id.now q.ed q.tlens.now q.trees.now (rw (named (goal.at.returns-clause-going c).After-parent_of-parent) at e.edit))
+    let d = (goal.at.returns-clause-going c).After-parent_of-parent in
+    link_going c.args.s.now c.requires.0 (above d) c.args.id.now (rw (named d) at c.set.ensures)
 
 pub returns-clause-between : goal.returns-clause-between
 returns-clause-between c order h = between_kept c.args.s.now.ed c.set.new.s.ed order (c.args.slot ∷ []) c.set.ensures.edit.kept h.between
