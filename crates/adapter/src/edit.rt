@@ -7,7 +7,8 @@ ghost use Rattle.editor_terms.specs.Objects.{table_of};
 ghost use Rattle.editor.specs.Lent.{lent, Does};
 ghost use Rattle.adapter_numbers.specs.Numbers.{Numbers, put_by};
 
-use store_slots::Record;
+use editor_terms::table::Table;
+use store_slots::{Record, Store};
 
 // Sets the entry at a path below a prefix: 255 where the mode is none of the five, or the id has not 20 bytes.
 #[unsafe(no_mangle)]
@@ -30,11 +31,16 @@ pub extern "C" fn tree_editor_upsert(
         (lent ed.old plens.old paths.old tlens.old trees.old order.now) result
         (lent ed.new plens.new paths.new tlens.new trees.new order.now) }
 {
-    let d = adapter_numbers::edit::upsert(
-        *ed, plens, paths, tlens, trees, order, ids, ends, raws, prefix, path, id, mode,
-    );
-    *ed = d.ed;
-    d.code
+    let mut s = Store {
+        ed: *ed,
+        plens,
+        paths,
+        tlens,
+        trees,
+    };
+    let code = adapter_numbers::edit::upsert(&mut s, order, Table { ids, ends, raws }, prefix, path, id, mode);
+    *ed = s.ed;
+    code
 }
 
 // Removes the entry at a path below a prefix.
@@ -56,11 +62,16 @@ pub extern "C" fn tree_editor_remove(
         (lent ed.old plens.old paths.old tlens.old trees.old order.now) result
         (lent ed.new plens.new paths.new tlens.new trees.new order.now) }
 {
-    let d = adapter_numbers::edit::remove(
-        *ed, plens, paths, tlens, trees, order, ids, ends, raws, prefix, path,
-    );
-    *ed = d.ed;
-    d.code
+    let mut s = Store {
+        ed: *ed,
+        plens,
+        paths,
+        tlens,
+        trees,
+    };
+    let code = adapter_numbers::edit::remove(&mut s, order, Table { ids, ends, raws }, prefix, path);
+    *ed = s.ed;
+    code
 }
 
 // Removes the entry at a path below a prefix, which must not be a tree.
@@ -82,11 +93,16 @@ pub extern "C" fn tree_editor_remove_leaf(
         (lent ed.old plens.old paths.old tlens.old trees.old order.now) result
         (lent ed.new plens.new paths.new tlens.new trees.new order.now) }
 {
-    let d = adapter_numbers::edit::remove_leaf(
-        *ed, plens, paths, tlens, trees, order, ids, ends, raws, prefix, path,
-    );
-    *ed = d.ed;
-    d.code
+    let mut s = Store {
+        ed: *ed,
+        plens,
+        paths,
+        tlens,
+        trees,
+    };
+    let code = adapter_numbers::edit::remove_leaf(&mut s, order, Table { ids, ends, raws }, prefix, path);
+    *ed = s.ed;
+    code
 }
 
 // Opens a cursor at a path, where a tree is then cached.
@@ -107,9 +123,14 @@ pub extern "C" fn tree_editor_cursor_at(
         (lent ed.old plens.old paths.old tlens.old trees.old order.now) result
         (lent ed.new plens.new paths.new tlens.new trees.new order.now) }
 {
-    let d = adapter_numbers::edit::cursor_at(
-        *ed, plens, paths, tlens, trees, order, ids, ends, raws, path,
-    );
-    *ed = d.ed;
-    d.code
+    let mut s = Store {
+        ed: *ed,
+        plens,
+        paths,
+        tlens,
+        trees,
+    };
+    let code = adapter_numbers::edit::cursor_at(&mut s, order, Table { ids, ends, raws }, path);
+    *ed = s.ed;
+    code
 }

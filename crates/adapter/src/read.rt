@@ -5,24 +5,24 @@ ghost use Rattle.editor_walk.specs.Lookups.{looked_as};
 ghost use Rattle.editor.specs.Lent.{lent, Good};
 ghost use Rattle.adapter.specs.Reads.{Tells, Gives, Gets};
 
-use editor_walk::look::Looked;
+use editor_terms::edit::Seen;
+use editor_terms::refusal::Refusal;
 use names::limits::WIDTH;
 use names::mode::Mode;
-use store_slots::Record;
+use store_slots::{Record, View};
 
 // The number that a lookup gives; the id of an entry goes to the front of the slice.
-fn tell_lookup(found: Looked, id: &mut [u8]) -> u32
+fn tell_lookup(found: Result<Option<Seen>, Refusal>, id: &mut [u8]) -> u32
     requires { 20 ≤ length id.old }
     ensures { (name : Bytes) → Gives (looked_as name found) id.old result id.new }
 {
     match found {
-        Looked::Missing => 0,
-        Looked::Refused(code) => editor_terms::code::number(code) as u32,
-        Looked::Found(kind, what) => {
-            let b = editor_terms::id::bytes(what);
-            names::write::put(id, 0, &b);
-            Mode::of(kind).bits
+        Ok(Some(seen)) => {
+            names::write::put(id, 0, &seen.id.bytes);
+            Mode::from(seen.kind).bits
         }
+        Ok(None) => 0,
+        Err(refusal) => u32::from(u8::from(refusal)),
     }
 }
 
@@ -47,8 +47,14 @@ pub extern "C" fn tree_editor_get(
     if id.len() < WIDTH {
         return 255;
     }
-    let found = editor::look::get(ed, plens, paths, tlens, trees, order, prefix, path);
-    tell_lookup(found, id)
+    let v = View {
+        ed,
+        plens,
+        paths,
+        tlens,
+        trees,
+    };
+    tell_lookup(editor::look::get(v, order, prefix, path), id)
 }
 
 // 1 where record and slices hold an editor, else 0.
@@ -63,8 +69,12 @@ pub extern "C" fn tree_editor_holds(
 ) -> u8
     ensures { Tells (Good (lent ed plens.now paths.now tlens.now trees.now order.now)) result }
 {
-    if store_check::holds::holds(ed, plens, paths, tlens, trees, order) {
-        return 1;
-    }
-    0
+    let v = View {
+        ed,
+        plens,
+        paths,
+        tlens,
+        trees,
+    };
+    u8::from(store_check::holds::holds(v, order))
 }

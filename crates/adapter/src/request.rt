@@ -3,7 +3,7 @@ ghost use Rattle.editor.specs.Lent.{lent};
 ghost use Rattle.adapter_numbers.specs.Asks.{slices, Asks};
 
 use names::limits::PATH;
-use store_slots::Record;
+use store_slots::{Record, View};
 
 // Writes the raw tree that is requested and the path it belongs at to the fronts of the slices.
 #[unsafe(no_mangle)]
@@ -28,9 +28,12 @@ pub extern "C" fn tree_editor_request(
     if path.len() < PATH {
         return 255;
     }
-    let a = editor_write::request::request(ed, plens, paths, tlens, trees, order, out);
-    let code = a.code;
-    let len = a.len;
-    let at = a.at;
-    adapter_numbers::told::tell_request(code, len, at, path, lens)
+    let v = View {
+        ed,
+        plens,
+        paths,
+        tlens,
+        trees,
+    };
+    adapter_numbers::told::tell_request(editor_write::request::request(v, order, out), path, lens)
 }

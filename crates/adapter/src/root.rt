@@ -4,7 +4,7 @@ ghost use Rattle.model.specs.Formats.{sha1};
 ghost use Rattle.editor.specs.Lent.{lent, Does};
 ghost use Rattle.editor.specs.Roots.{Makes};
 
-use store_slots::Record;
+use store_slots::{Record, Store};
 
 // Makes an editor with this root.
 #[unsafe(no_mangle)]
@@ -21,9 +21,16 @@ pub extern "C" fn tree_editor_new(
         (lent ed.old plens.old paths.old tlens.old trees.old order.now) result
         (lent ed.new plens.new paths.new tlens.new trees.new order.now) }
 {
-    let d = adapter_numbers::root::new(*ed, plens, paths, tlens, trees, order, raw);
-    *ed = d.ed;
-    d.code
+    let mut s = Store {
+        ed: *ed,
+        plens,
+        paths,
+        tlens,
+        trees,
+    };
+    let code = adapter_numbers::root::new(&mut s, order, raw);
+    *ed = s.ed;
+    code
 }
 
 // Sets the root, and drops every cached tree.
@@ -41,7 +48,14 @@ pub extern "C" fn tree_editor_set_root(
         (lent ed.old plens.old paths.old tlens.old trees.old order.now) result
         (lent ed.new plens.new paths.new tlens.new trees.new order.now) }
 {
-    let d = adapter_numbers::root::set_root(*ed, plens, paths, tlens, trees, order, raw);
-    *ed = d.ed;
-    d.code
+    let mut s = Store {
+        ed: *ed,
+        plens,
+        paths,
+        tlens,
+        trees,
+    };
+    let code = adapter_numbers::root::set_root(&mut s, order, raw);
+    *ed = s.ed;
+    code
 }

@@ -6,7 +6,7 @@ ghost use Rattle.editor.specs.Lent.{lent, Does};
 ghost use Rattle.adapter_numbers.specs.Asks.{slices, AnswersAndAsks};
 ghost use Rattle.adapter_numbers.specs.Numbers.{Numbers, answer_by};
 
-use store_slots::Record;
+use store_slots::{Record, Store};
 
 // Begins a write from the root.
 #[unsafe(no_mangle)]
@@ -22,9 +22,16 @@ pub extern "C" fn tree_editor_begin(
         (lent ed.old plens.old paths.old tlens.old trees.old order.old) result
         (lent ed.new plens.new paths.new tlens.new trees.new order.new) }
 {
-    let d = adapter_numbers::write::begin(*ed, plens, paths, tlens, trees, order);
-    *ed = d.ed;
-    d.code
+    let mut s = Store {
+        ed: *ed,
+        plens,
+        paths,
+        tlens,
+        trees,
+    };
+    let code = adapter_numbers::write::begin(&mut s, order);
+    *ed = s.ed;
+    code
 }
 
 // Begins a write from the tree cached at a prefix.
@@ -42,9 +49,16 @@ pub extern "C" fn tree_editor_begin_at(
         (lent ed.old plens.old paths.old tlens.old trees.old order.old) result
         (lent ed.new plens.new paths.new tlens.new trees.new order.new) }
 {
-    let d = adapter_numbers::write::begin_at(*ed, plens, paths, tlens, trees, order, prefix);
-    *ed = d.ed;
-    d.code
+    let mut s = Store {
+        ed: *ed,
+        plens,
+        paths,
+        tlens,
+        trees,
+    };
+    let code = adapter_numbers::write::begin_at(&mut s, order, prefix);
+    *ed = s.ed;
+    code
 }
 
 // Answers the open request with the id of the tree that was requested: 255 where it has not 20 bytes.
@@ -62,9 +76,16 @@ pub extern "C" fn tree_editor_answer(
         (lent ed.old plens.old paths.old tlens.old trees.old order.old) result
         (lent ed.new plens.new paths.new tlens.new trees.new order.new) }
 {
-    let d = adapter_numbers::write::answer(*ed, plens, paths, tlens, trees, order, id);
-    *ed = d.ed;
-    d.code
+    let mut s = Store {
+        ed: *ed,
+        plens,
+        paths,
+        tlens,
+        trees,
+    };
+    let code = adapter_numbers::write::answer(&mut s, order, id);
+    *ed = s.ed;
+    code
 }
 
 // Answers the open request, and reads the one that is open then to the fronts of the slices, with the number of the reading: 255 where the id has not
@@ -89,11 +110,16 @@ pub extern "C" fn tree_editor_answer_and_request(
         (lent ed.new plens.new paths.new tlens.new trees.new order.new)
         (slices out.new path.new lens.new) next.new }
 {
-    let d = adapter_numbers::next::answer_and_request(
-        *ed, plens, paths, tlens, trees, order, id, out, path, lens, next,
-    );
-    *ed = d.ed;
-    d.code
+    let mut s = Store {
+        ed: *ed,
+        plens,
+        paths,
+        tlens,
+        trees,
+    };
+    let code = adapter_numbers::next::answer_and_request(&mut s, order, id, out, path, lens, next);
+    *ed = s.ed;
+    code
 }
 
 // Fails the open request: the start tree goes back as it stands, the other taken trees are lost.
@@ -110,7 +136,14 @@ pub extern "C" fn tree_editor_fail(
         (lent ed.old plens.old paths.old tlens.old trees.old order.now) result
         (lent ed.new plens.new paths.new tlens.new trees.new order.now) }
 {
-    let d = adapter_numbers::write::fail(*ed, plens, paths, tlens, trees, order);
-    *ed = d.ed;
-    d.code
+    let mut s = Store {
+        ed: *ed,
+        plens,
+        paths,
+        tlens,
+        trees,
+    };
+    let code = adapter_numbers::write::fail(&mut s, order);
+    *ed = s.ed;
+    code
 }

@@ -8,146 +8,67 @@ ghost use Rattle.editor_terms.specs.Objects.{table_of};
 ghost use Rattle.editor.specs.Lent.{lent, Does};
 ghost use Rattle.adapter_numbers.specs.Numbers.{Numbers, put_by};
 
-use crate::Numbered;
 use editor_terms::edit::{Edit, RemoveKind};
 use names::limits::WIDTH;
-use names::mode::{Mode, ModeRead};
-use store_slots::Record;
+use editor_terms::refusal::number;
+use editor_terms::table::Table;
+use names::mode::Mode;
+use store_slots::Store;
 
 // An edit at a path below a prefix.
-fn numbered_edit(
-    ed: Record,
-    plens: &mut [u64],
-    paths: &mut [u8],
-    tlens: &mut [u64],
-    trees: &mut [u8],
-    order: &[u64],
-    ids: &[u8],
-    ends: &[u32],
-    raws: &[u8],
-    prefix: &[u8],
-    path: &[u8],
-    edit: Edit,
-) -> Numbered
-    ensures { Does (model.edited sha1 (table_of ids.now ends.now raws.now) (as_edit edit) false prefix.now path.now)
-        (lent ed plens.old paths.old tlens.old trees.old order.now) result.code
-        (lent result.ed plens.new paths.new tlens.new trees.new order.now) }
+fn numbered_edit(s: &mut Store<'_>, order: &[u64], table: Table<'_>, prefix: &[u8], path: &[u8], edit: Edit) -> u8
+    ensures done { Does (model.edited sha1 (table_in table.entry) (as_edit edit) false prefix.now path.now)
+        (lent_in s.old order.now) result
+        (lent_in s.new order.now) }
+    ensures lent { SameLent s.old s.new }
 {
-    let a = editor::edit::edit(
-        ed, plens, paths, tlens, trees, order, ids, ends, raws, prefix, path, edit, false,
-    );
-    let code = a.code;
-    let now = a.ed;
-    Numbered {
-        code: editor_terms::code::number(code),
-        ed: now,
-    }
+    number(editor::edit::edit(s, order, table, prefix, path, edit, false))
 }
 
 // Sets the entry at a path below a prefix: 255 where the mode is none of the five, or the id has not 20 bytes.
-pub fn upsert(
-    ed: Record,
-    plens: &mut [u64],
-    paths: &mut [u8],
-    tlens: &mut [u64],
-    trees: &mut [u8],
-    order: &[u64],
-    ids: &[u8],
-    ends: &[u32],
-    raws: &[u8],
-    prefix: &[u8],
-    path: &[u8],
-    id: &[u8],
-    mode: u32,
-) -> Numbered
-    ensures { Numbers (put_by (table_of ids.now ends.now raws.now) mode id.now prefix.now path.now)
-        (lent ed plens.old paths.old tlens.old trees.old order.now) result.code
-        (lent result.ed plens.new paths.new tlens.new trees.new order.now) }
+pub fn upsert(s: &mut Store<'_>, order: &[u64], table: Table<'_>, prefix: &[u8], path: &[u8], id: &[u8], mode: u32) -> u8
+    ensures done { Numbers (put_by (table_in table.entry) mode id.now prefix.now path.now)
+        (lent_in s.old order.now) result
+        (lent_in s.new order.now) }
+    ensures lent { SameLent s.old s.new }
 {
-    if id.len() != WIDTH {
-        return Numbered { code: 255, ed };
-    }
-    match (Mode { bits: mode }).kind() {
-        ModeRead::Refused => Numbered { code: 255, ed },
-        ModeRead::Kind(kind) => {
+    let kind = Mode { bits: mode }.kind();
+    match kind {
+        Some(kind) if id.len() == WIDTH => {
             let edit = Edit::Upsert(kind, editor_terms::id::id_at(id, 0));
-            numbered_edit(
-                ed, plens, paths, tlens, trees, order, ids, ends, raws, prefix, path, edit,
-            )
+            numbered_edit(s, order, table, prefix, path, edit)
         }
+        _ => 255,
     }
 }
 
 // Removes the entry at a path below a prefix.
-pub fn remove(
-    ed: Record,
-    plens: &mut [u64],
-    paths: &mut [u8],
-    tlens: &mut [u64],
-    trees: &mut [u8],
-    order: &[u64],
-    ids: &[u8],
-    ends: &[u32],
-    raws: &[u8],
-    prefix: &[u8],
-    path: &[u8],
-) -> Numbered
-    ensures { Does (model.edited sha1 (table_of ids.now ends.now raws.now) (walk.remove walk.ANY) false prefix.now path.now)
-        (lent ed plens.old paths.old tlens.old trees.old order.now) result.code
-        (lent result.ed plens.new paths.new tlens.new trees.new order.now) }
+pub fn remove(s: &mut Store<'_>, order: &[u64], table: Table<'_>, prefix: &[u8], path: &[u8]) -> u8
+    ensures done { Does (model.edited sha1 (table_in table.entry) (walk.remove walk.ANY) false prefix.now path.now)
+        (lent_in s.old order.now) result
+        (lent_in s.new order.now) }
+    ensures lent { SameLent s.old s.new }
 {
-    let edit = Edit::Remove(RemoveKind::Any);
-    numbered_edit(
-        ed, plens, paths, tlens, trees, order, ids, ends, raws, prefix, path, edit,
-    )
+    numbered_edit(s, order, table, prefix, path, Edit::Remove(RemoveKind::Any))
 }
 
 // Removes the entry at a path below a prefix, which must not be a tree.
-pub fn remove_leaf(
-    ed: Record,
-    plens: &mut [u64],
-    paths: &mut [u8],
-    tlens: &mut [u64],
-    trees: &mut [u8],
-    order: &[u64],
-    ids: &[u8],
-    ends: &[u32],
-    raws: &[u8],
-    prefix: &[u8],
-    path: &[u8],
-) -> Numbered
-    ensures { Does (model.edited sha1 (table_of ids.now ends.now raws.now) (walk.remove walk.LEAF) false prefix.now path.now)
-        (lent ed plens.old paths.old tlens.old trees.old order.now) result.code
-        (lent result.ed plens.new paths.new tlens.new trees.new order.now) }
+pub fn remove_leaf(s: &mut Store<'_>, order: &[u64], table: Table<'_>, prefix: &[u8], path: &[u8]) -> u8
+    ensures done { Does (model.edited sha1 (table_in table.entry) (walk.remove walk.LEAF) false prefix.now path.now)
+        (lent_in s.old order.now) result
+        (lent_in s.new order.now) }
+    ensures lent { SameLent s.old s.new }
 {
-    let edit = Edit::Remove(RemoveKind::Leaf);
-    numbered_edit(
-        ed, plens, paths, tlens, trees, order, ids, ends, raws, prefix, path, edit,
-    )
+    numbered_edit(s, order, table, prefix, path, Edit::Remove(RemoveKind::Leaf))
 }
 
 // Opens a cursor at a path, where a tree is then cached.
-pub fn cursor_at(
-    ed: Record,
-    plens: &mut [u64],
-    paths: &mut [u8],
-    tlens: &mut [u64],
-    trees: &mut [u8],
-    order: &[u64],
-    ids: &[u8],
-    ends: &[u32],
-    raws: &[u8],
-    path: &[u8],
-) -> Numbered
-    ensures { Does (model.opened sha1 (table_of ids.now ends.now raws.now) path.now)
-        (lent ed plens.old paths.old tlens.old trees.old order.now) result.code
-        (lent result.ed plens.new paths.new tlens.new trees.new order.now) }
+pub fn cursor_at(s: &mut Store<'_>, order: &[u64], table: Table<'_>, path: &[u8]) -> u8
+    ensures done { Does (model.opened sha1 (table_in table.entry) path.now)
+        (lent_in s.old order.now) result
+        (lent_in s.new order.now) }
+    ensures lent { SameLent s.old s.new }
 {
-    let o = editor::cursor::cursor_at(ed, plens, paths, tlens, trees, order, ids, ends, raws, path);
-    let code = o.code;
-    let opened = o.ed;
-    Numbered {
-        code: editor_terms::code::number(code),
-        ed: opened,
-    }
+    let opened = editor::cursor::cursor_at(s, order, table, path);
+    number(opened.map(|_| ()))
 }

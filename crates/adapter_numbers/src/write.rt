@@ -5,107 +5,50 @@ ghost use Rattle.model.specs.Write.{begun, failed};
 ghost use Rattle.editor.specs.Lent.{lent, Does};
 ghost use Rattle.adapter_numbers.specs.Numbers.{Numbers, answer_by};
 
-use crate::Numbered;
+use editor_terms::refusal::number;
 use names::limits::WIDTH;
-use store_slots::Record;
+use store_slots::Store;
 
 // Begins a write from the root.
-pub fn begin(
-    ed: Record,
-    plens: &mut [u64],
-    paths: &mut [u8],
-    tlens: &mut [u64],
-    trees: &mut [u8],
-    order: &mut [u64],
-) -> Numbered
-    ensures { Does (begun sha1 from_root)
-        (lent ed plens.old paths.old tlens.old trees.old order.old) result.code
-        (lent result.ed plens.new paths.new tlens.new trees.new order.new) }
+pub fn begin(s: &mut Store<'_>, order: &mut [u64]) -> u8
+    ensures done { Does (begun sha1 from_root)
+        (lent_in s.old order.old) result
+        (lent_in s.new order.new) }
+    ensures lent { SameLent s.old s.new }
 {
-    let a = editor_write::begin::begin(ed, plens, paths, tlens, trees, order);
-    let code = a.code;
-    let now = a.ed;
-    Numbered {
-        code: editor_terms::code::number(code),
-        ed: now,
-    }
+    number(editor_write::begin::begin(s, order))
 }
 
 // Begins a write from the tree cached at a prefix.
-pub fn begin_at(
-    ed: Record,
-    plens: &mut [u64],
-    paths: &mut [u8],
-    tlens: &mut [u64],
-    trees: &mut [u8],
-    order: &mut [u64],
-    prefix: &[u8],
-) -> Numbered
-    ensures { Does (begun sha1 (from_cursor prefix.now))
-        (lent ed plens.old paths.old tlens.old trees.old order.old) result.code
-        (lent result.ed plens.new paths.new tlens.new trees.new order.new) }
+pub fn begin_at(s: &mut Store<'_>, order: &mut [u64], prefix: &[u8]) -> u8
+    ensures done { Does (begun sha1 (from_cursor prefix.now))
+        (lent_in s.old order.old) result
+        (lent_in s.new order.new) }
+    ensures lent { SameLent s.old s.new }
 {
-    let a = editor_write::begin::begin_at(ed, plens, paths, tlens, trees, order, prefix);
-    let code = a.code;
-    let now = a.ed;
-    Numbered {
-        code: editor_terms::code::number(code),
-        ed: now,
-    }
+    number(editor_write::begin::begin_at(s, order, prefix))
 }
 
 // Answers the open request with the id of the tree that was requested: 255 where it has not 20 bytes.
-pub fn answer(
-    ed: Record,
-    plens: &mut [u64],
-    paths: &mut [u8],
-    tlens: &mut [u64],
-    trees: &mut [u8],
-    order: &mut [u64],
-    id: &[u8],
-) -> Numbered
-    ensures { Numbers (answer_by id.now)
-        (lent ed plens.old paths.old tlens.old trees.old order.old) result.code
-        (lent result.ed plens.new paths.new tlens.new trees.new order.new) }
+pub fn answer(s: &mut Store<'_>, order: &mut [u64], id: &[u8]) -> u8
+    ensures done { Numbers (answer_by id.now)
+        (lent_in s.old order.old) result
+        (lent_in s.new order.new) }
+    ensures lent { SameLent s.old s.new }
 {
     if id.len() != WIDTH {
-        return Numbered { code: 255, ed };
+        return 255;
     }
-    let a = editor_write::answer::answer(
-        ed,
-        plens,
-        paths,
-        tlens,
-        trees,
-        order,
-        editor_terms::id::id_at(id, 0),
-    );
-    let code = a.code;
-    let now = a.ed;
-    Numbered {
-        code: editor_terms::code::number(code),
-        ed: now,
-    }
+    let id = editor_terms::id::id_at(id, 0);
+    number(editor_write::answer::answer(s, order, id))
 }
 
 // Fails the open request: the start tree goes back as it stands, the other taken trees are lost.
-pub fn fail(
-    ed: Record,
-    plens: &mut [u64],
-    paths: &mut [u8],
-    tlens: &mut [u64],
-    trees: &mut [u8],
-    order: &[u64],
-) -> Numbered
-    ensures { Does failed
-        (lent ed plens.old paths.old tlens.old trees.old order.now) result.code
-        (lent result.ed plens.new paths.new tlens.new trees.new order.now) }
+pub fn fail(s: &mut Store<'_>, order: &[u64]) -> u8
+    ensures done { Does failed
+        (lent_in s.old order.now) result
+        (lent_in s.new order.now) }
+    ensures lent { SameLent s.old s.new }
 {
-    let a = editor_write::fail::fail(ed, plens, paths, tlens, trees, order);
-    let code = a.code;
-    let now = a.ed;
-    Numbered {
-        code: editor_terms::code::number(code),
-        ed: now,
-    }
+    number(editor_write::fail::fail(s, order))
 }

@@ -5,6 +5,8 @@ use Rattle.model.specs.Editor.{Editor as Model}
 use Rattle.model.specs.Formats.{sha1}
 use Rattle.store_slots.specs.View.{tree_room, editor_of}
 use Rattle.store_slots.specs.declared.Record.{Record}
+use Rattle.store_slots.specs.declared.Store.{Store}
+use Rattle.store_slots.specs.declared.View.{View}
 use Rattle.store_check.specs.Stored.{Stored}
 
 -- the record, and the slices as they are lent, which may be longer than a store
@@ -18,6 +20,13 @@ pub record Lent : Type 0 where
 
 abbrev pub lent : Record → List ℕ → List ℕ → List ℕ → List ℕ → List ℕ → Lent
 lent ed plens paths tlens trees order = record { ed = ed; plens = plens; paths = paths; tlens = tlens; trees = trees; order = order }
+
+-- the same of a store as one value, and of one that is read
+abbrev pub lent_in : Store → List ℕ → Lent
+lent_in s order = lent s.ed s.plens.now s.paths.now s.tlens.now s.trees.now order
+
+abbrev pub lent_seen : View → List ℕ → Lent
+lent_seen v order = lent v.ed v.plens.now v.paths.now v.tlens.now v.trees.now order
 
 -- the slices are as long as a store
 pub record Long (s : Lent) : Type 0 where

@@ -7,11 +7,13 @@ ghost use Rattle.editor_terms.specs.Objects.{table_of};
 ghost use Rattle.editor.specs.Lent.{lent, Does};
 ghost use Rattle.editor.specs.Looks.{standing, prefix_of, cursor_at};
 
-use editor_terms::code::Code;
 use editor_terms::edit::Edit;
+use editor_terms::id::Id;
+use editor_terms::refusal::Refusal;
+use editor_terms::table::Table;
 use names::limits::PATH;
 use names::mode::EntryKind;
-use store_slots::Record;
+use store_slots::Store;
 
 #[derive(Drop)]
 pub struct Cursor {
@@ -48,55 +50,15 @@ pub fn sound(cursor: Cursor) -> Cursor
     at(b"\0")
 }
 
-// The opening of a cursor: its number, the record, and the cursor, which stands at the root where it is refused.
-#[derive(Drop)]
-pub struct Opened {
-    pub code: Code,
-    pub ed: Record,
-    pub cursor: Cursor,
-}
-
-// The cursor of an opening that was answered so.
-fn placed(path: &[u8], code: Code) -> Cursor
-    requires { code_number code ≡ 0 → length path.now ≤ 1024 }
-    ensures { (code_number code ≡ 0 → prefix_of result ≡ path.now) × ((code_number code ≡ 0 → ⊥) → prefix_of result ≡ [])
-        × (code_number code ≡ 0 → result ≡ cursor_at path.now) × ((code_number code ≡ 0 → ⊥) → result ≡ cursor_at []) }
-{
-    if editor_terms::code::number(code) != 0 {
-        return to_cursor();
-    }
-    at(path)
-}
-
 // Opens a cursor at a path, where a tree is then cached.
-pub fn cursor_at(
-    ed: Record,
-    plens: &mut [u64],
-    paths: &mut [u8],
-    tlens: &mut [u64],
-    trees: &mut [u8],
-    order: &[u64],
-    ids: &[u8],
-    ends: &[u32],
-    raws: &[u8],
-    path: &[u8],
-) -> Opened
-    ensures { Does (model.opened sha1 (table_of ids.now ends.now raws.now) path.now)
-        (lent ed plens.old paths.old tlens.old trees.old order.now) (code_number result.code)
-        (lent result.ed plens.new paths.new tlens.new trees.new order.now)
-        × (code_number result.code ≡ 0 → prefix_of result.cursor ≡ path.now) × ((code_number result.code ≡ 0 → ⊥) → prefix_of result.cursor ≡ [])
-        × (code_number result.code ≡ 0 → result.cursor ≡ cursor_at path.now) × ((code_number result.code ≡ 0 → ⊥) → result.cursor ≡ cursor_at []) }
+pub fn cursor_at(s: &mut Store<'_>, order: &[u64], table: Table<'_>, path: &[u8]) -> Result<Cursor, Refusal>
+    ensures done { Does (model.opened sha1 (table_in table.entry) path.now)
+        (lent_in s.old order.now) (opened_number result)
+        (lent_in s.new order.now) }
+    ensures cursor { IfOk result (λ c. (prefix_of c ≡ path.now) × (c ≡ cursor_at path.now)) }
+    ensures lent { SameLent s.old s.new }
 {
-    let edit = Edit::Upsert(EntryKind::Tree, editor_terms::id::NULL);
-    let a = crate::edit::edit(
-        ed, plens, paths, tlens, trees, order, ids, ends, raws, b"", path, edit, true,
-    );
-    let code = a.code;
-    let now = a.ed;
-    let cursor = placed(path, code);
-    Opened {
-        code,
-        ed: now,
-        cursor,
-    }
+    let edit = Edit::Upsert(EntryKind::Tree, Id::NULL);
+    crate::edit::edit(s, order, table, b"", path, edit, true)?;
+    Ok(at(path))
 }

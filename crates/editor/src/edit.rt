@@ -11,112 +11,79 @@ ghost use Rattle.editor_terms.specs.Objects.{table_of};
 ghost use Rattle.editor.specs.Lent.{lent, Does};
 ghost use Rattle.editor.specs.Edited.{EditedAs};
 
-use crate::ready::Ready;
-use editor_terms::code::Code;
 use editor_terms::edit::Edit;
-use editor_walk::apply::Answer;
+use editor_terms::refusal::Refusal;
+use editor_terms::table::Table;
 use names::limits::{FULL, PATH_BYTES, SLOTS, TREE_BYTES};
-use store_slots::Record;
+use store_slots::{Record, Store};
 
 // An edit at a path below a prefix, over slices as long as a store, which hold an editor.
-fn edit_held(
-    ed: Record,
+fn edit_held(s: &mut Store<'_>, table: Table<'_>, prefix: &[u8], path: &[u8], edit: Edit, opening: bool) -> Result<(), Refusal>
+    requires { LaidIn 20 s.old × (s.old.ed.«open» ≡ 0 → s.old.ed.hidden ≡ s.old.ed.free)
+        × (s.old.ed.«open» ≡ 0 → valid sha1 (editor_at (view_in 20 s.old)) ≡ true) }
+    ensures done { (order : List ℕ) → EditedAs s.old.ed s.old.plens.now s.old.paths.now s.old.tlens.now s.old.trees.now order
+        (model.edited sha1 (table_in table.entry) (as_edit edit) opening prefix.now path.now
+        (editor_of 20 s.old.ed s.old.plens.now s.old.paths.now s.old.tlens.now s.old.trees.now order)) result s.new.plens.now s.new.paths.now s.new.tlens.now s.new.trees.now }
+    ensures lent { SameLent s.old s.new }
+{
+    if s.ed.open != 0 {
+        return Err(Refusal::WriteOpen);
+    }
+    let table = table.checked().ok_or(Refusal::BadTable)?;
+    let slot = crate::ready::slot_for(s.view(), prefix, path)?;
+    let mut buf = [0u8; FULL];
+    let n = names::full::put_full(&mut buf, prefix, path);
+    editor_walk::apply::settle(s, table, &buf[..n], path, edit, opening, slot)
+}
+
+// The same over slices that may be longer, of which the fronts hold an editor.
+fn edit_fronts(
+    ed: &mut Record,
     plens: &mut [u64],
     paths: &mut [u8],
     tlens: &mut [u64],
     trees: &mut [u8],
-    ids: &[u8],
-    ends: &[u32],
-    raws: &[u8],
+    table: Table<'_>,
     prefix: &[u8],
     path: &[u8],
     edit: Edit,
     opening: bool,
-) -> Answer
-    requires { Laid 20 ed plens.old paths.old tlens.old trees.old × (ed.«open» ≡ 0 → ed.hidden ≡ ed.free)
-        × (ed.«open» ≡ 0 → valid sha1 (editor_at (view_of 20 ed plens.old paths.old tlens.old trees.old)) ≡ true) }
-    ensures { (order : List ℕ) → EditedAs ed plens.old paths.old tlens.old trees.old order
-        (model.edited sha1 (table_of ids.now ends.now raws.now) (as_edit edit) opening prefix.now path.now
-        (editor_of 20 ed plens.old paths.old tlens.old trees.old order)) result plens.new paths.new tlens.new trees.new }
+) -> Result<(), Refusal>
+    requires { (order : List ℕ) × Good (lent ed.old plens.old paths.old tlens.old trees.old order) }
+    ensures { (order : List ℕ) → Good (lent ed.old plens.old paths.old tlens.old trees.old order) →
+        Does (model.edited sha1 (table_in table.entry) (as_edit edit) opening prefix.now path.now)
+        (lent ed.old plens.old paths.old tlens.old trees.old order) (code_number result)
+        (lent ed.new plens.new paths.new tlens.new trees.new order) }
 {
-    if ed.open != 0 {
-        return Answer {
-            code: Code::WriteOpen,
-            ed,
-        };
-    }
-    if !editor_terms::table::is_good(ids, ends, raws) {
-        return Answer {
-            code: Code::BadTable,
-            ed,
-        };
-    }
-    match crate::ready::slot_for(ed, plens, paths, prefix, path) {
-        Ready::Stale => Answer {
-            code: Code::CursorStale,
-            ed,
-        },
-        Ready::Refused => Answer {
-            code: Code::PathRefused,
-            ed,
-        },
-        Ready::In(slot) => {
-            let mut buf = [0u8; FULL];
-            let n = names::full::put_full(&mut buf, prefix, path);
-            editor_walk::apply::settle(
-                ed,
-                plens,
-                paths,
-                tlens,
-                trees,
-                ids,
-                ends,
-                raws,
-                &buf[..n],
-                path,
-                edit,
-                opening,
-                slot,
-            )
-        }
-    }
+    let mut exact = Store {
+        ed: *ed,
+        plens: &mut plens[..SLOTS],
+        paths: &mut paths[..PATH_BYTES],
+        tlens: &mut tlens[..SLOTS],
+        trees: &mut trees[..TREE_BYTES],
+    };
+    let answer = edit_held(&mut exact, table, prefix, path, edit, opening);
+    *ed = exact.ed;
+    answer
 }
 
 // An edit, or with `opening` the opening of a cursor, at a path below a prefix.
-pub fn edit(
-    ed: Record,
-    plens: &mut [u64],
-    paths: &mut [u8],
-    tlens: &mut [u64],
-    trees: &mut [u8],
-    order: &[u64],
-    ids: &[u8],
-    ends: &[u32],
-    raws: &[u8],
-    prefix: &[u8],
-    path: &[u8],
-    edit: Edit,
-    opening: bool,
-) -> Answer
-    ensures { Does (model.edited sha1 (table_of ids.now ends.now raws.now) (as_edit edit) opening prefix.now path.now)
-        (lent ed plens.old paths.old tlens.old trees.old order.now) (code_number result.code)
-        (lent result.ed plens.new paths.new tlens.new trees.new order.now) }
+pub fn edit(s: &mut Store<'_>, order: &[u64], table: Table<'_>, prefix: &[u8], path: &[u8], edit: Edit, opening: bool) -> Result<(), Refusal>
+    ensures done { Does (model.edited sha1 (table_in table.entry) (as_edit edit) opening prefix.now path.now)
+        (lent_in s.old order.now) (code_number result)
+        (lent_in s.new order.now) }
+    ensures lent { SameLent s.old s.new }
 {
-    if !store_check::holds::holds(ed, plens, paths, tlens, trees, order) {
-        return Answer {
-            code: Code::StoreDamaged,
-            ed,
-        };
+    if !store_check::holds::holds(s.view(), order) {
+        return Err(Refusal::StoreDamaged);
     }
-    edit_held(
-        ed,
-        &mut plens[..SLOTS],
-        &mut paths[..PATH_BYTES],
-        &mut tlens[..SLOTS],
-        &mut trees[..TREE_BYTES],
-        ids,
-        ends,
-        raws,
+    edit_fronts(
+        &mut s.ed,
+        &mut *s.plens,
+        &mut *s.paths,
+        &mut *s.tlens,
+        &mut *s.trees,
+        table,
         prefix,
         path,
         edit,

@@ -7,63 +7,39 @@ ghost use Rattle.editor_walk.specs.Lookups.{looked_as};
 ghost use Rattle.editor.specs.Lent.{lent};
 ghost use Rattle.editor.specs.Looks.{Looks};
 
-use crate::ready::Ready;
-use editor_terms::code::Code;
-use editor_walk::look::Looked;
+use editor_terms::edit::Seen;
+use editor_terms::refusal::Refusal;
 use names::limits::{FULL, PATH_BYTES, SLOTS, TREE_BYTES};
-use store_slots::Record;
+use store_slots::View;
 
 // The entry at a path below a prefix, over slices as long as a store, which hold an editor.
-fn look_held(
-    ed: Record,
-    plens: &[u64],
-    paths: &[u8],
-    tlens: &[u64],
-    trees: &[u8],
-    prefix: &[u8],
-    path: &[u8],
-) -> Looked
-    requires { Laid 20 ed plens.now paths.now tlens.now trees.now × (ed.«open» ≡ 0 → ed.hidden ≡ ed.free) }
+fn look_held(v: View<'_>, prefix: &[u8], path: &[u8]) -> Result<Option<Seen>, Refusal>
+    requires { LaidSeen 20 v × (v.ed.«open» ≡ 0 → v.ed.hidden ≡ v.ed.free) }
     ensures { (order : List ℕ) → looked_as (base path.now) result
-        ≡ model.looked prefix.now path.now (editor_of 20 ed plens.now paths.now tlens.now trees.now order) }
+        ≡ model.looked prefix.now path.now (editor_of 20 v.entry.ed v.entry.plens.now v.entry.paths.now v.entry.tlens.now v.entry.trees.now order) }
 {
-    if ed.open != 0 {
-        return Looked::Refused(Code::WriteOpen);
+    if v.ed.open != 0 {
+        return Err(Refusal::WriteOpen);
     }
-    match crate::ready::slot_for(ed, plens, paths, prefix, path) {
-        Ready::Stale => Looked::Refused(Code::CursorStale),
-        Ready::Refused => Looked::Refused(Code::PathRefused),
-        Ready::In(slot) => {
-            let mut buf = [0u8; FULL];
-            let n = names::full::put_full(&mut buf, prefix, path);
-            editor_walk::look::look(ed, plens, paths, tlens, trees, &buf[..n], path, slot)
-        }
-    }
+    let slot = crate::ready::slot_for(v, prefix, path)?;
+    let mut buf = [0u8; FULL];
+    let n = names::full::put_full(&mut buf, prefix, path);
+    Ok(editor_walk::look::look(v, &buf[..n], path, slot))
 }
 
 // The entry at a path below a prefix.
-pub fn get(
-    ed: Record,
-    plens: &[u64],
-    paths: &[u8],
-    tlens: &[u64],
-    trees: &[u8],
-    order: &[u64],
-    prefix: &[u8],
-    path: &[u8],
-) -> Looked
-    ensures { Looks prefix.now path.now (lent ed plens.now paths.now tlens.now trees.now order.now) (looked_as (base path.now) result) }
+pub fn get(v: View<'_>, order: &[u64], prefix: &[u8], path: &[u8]) -> Result<Option<Seen>, Refusal>
+    ensures { Looks prefix.now path.now (lent_seen v.entry order.now) (looked_as (base path.now) result) }
 {
-    if !store_check::holds::holds(ed, plens, paths, tlens, trees, order) {
-        return Looked::Refused(Code::StoreDamaged);
+    if !store_check::holds::holds(v, order) {
+        return Err(Refusal::StoreDamaged);
     }
-    look_held(
-        ed,
-        &plens[..SLOTS],
-        &paths[..PATH_BYTES],
-        &tlens[..SLOTS],
-        &trees[..TREE_BYTES],
-        prefix,
-        path,
-    )
+    let fronts = View {
+        ed: v.ed,
+        plens: &v.plens[..SLOTS],
+        paths: &v.paths[..PATH_BYTES],
+        tlens: &v.tlens[..SLOTS],
+        trees: &v.trees[..TREE_BYTES],
+    };
+    look_held(fronts, prefix, path)
 }

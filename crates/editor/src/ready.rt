@@ -5,29 +5,18 @@ ghost use Rattle.store_runs.specs.Digits.{digits};
 ghost use Rattle.store_runs.specs.Runs.{cut, Sound};
 ghost use Rattle.editor.specs.Looks.{ReadyIs};
 
-use store_slots::{Found, Record};
+use editor_terms::refusal::Refusal;
+use store_slots::View;
 
-// The slot of the prefix; or that no tree is cached there, number 8, or that the path is refused, number 6.
-#[derive(Clone, Copy)]
-pub enum Ready {
-    In(usize),
-    Stale,
-    Refused,
-}
-
-// Whether a call at a path below a prefix is refused; else the slot of the prefix.
-pub fn slot_for(ed: Record, plens: &[u64], paths: &[u8], prefix: &[u8], path: &[u8]) -> Ready
-    requires { Sound plens.now paths.now ed.paths × (length plens.now ≡ 64) }
+// The slot of the prefix; or the refusal of a call at a path below it: no tree is cached there, or the path is refused.
+pub fn slot_for(v: View<'_>, prefix: &[u8], path: &[u8]) -> Result<usize, Refusal>
+    requires { Sound v.plens.now v.paths.now v.ed.paths × (length v.plens.now ≡ 64) }
     ensures { (w : ℕ) (runs : List Bytes) → length runs ≡ 64
-        → ReadyIs w (digits 64 ed.hidden) (cut plens.now paths.now) runs prefix.now path.now result }
+        → ReadyIs w (digits 64 v.entry.ed.hidden) (cut v.entry.plens.now v.entry.paths.now) runs prefix.now path.now result }
 {
-    match store_slots::find(ed, plens, paths, prefix) {
-        Found::Nothing => Ready::Stale,
-        Found::At(slot) => {
-            if names::path::is_refused(prefix, path) {
-                return Ready::Refused;
-            }
-            Ready::In(slot)
-        }
+    let slot = v.find(prefix).ok_or(Refusal::CursorStale)?;
+    if names::path::is_refused(prefix, path) {
+        return Err(Refusal::PathRefused);
     }
+    Ok(slot)
 }

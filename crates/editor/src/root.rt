@@ -12,156 +12,100 @@ ghost use Rattle.store_check.specs.Decides.{Decides};
 ghost use Rattle.editor.specs.Lent.{lent, Long, Does};
 ghost use Rattle.editor.specs.Roots.{Roots, Makes};
 
-use editor_terms::code::Code;
-use editor_walk::apply::Answer;
+use editor_terms::refusal::Refusal;
 use names::limits::{ENTRIES, NAME_BYTES, PATH_BYTES, SLOTS, TREE_BYTES, WIDTH};
-use names::tree::Checked;
-use store_slots::Record;
+use names::tree::Size;
+use store_slots::{Record, Store, View};
 
 // Caches a well-formed raw tree with so many entries and name bytes as the root, and nothing else, in slices as long as a store.
-fn root_only(
+fn root_only(s: &mut Store<'_>, raw: &[u8], size: Size)
+    requires { (length s.old.plens.now ≡ 64) × (length s.old.paths.now ≡ 8192) × (length s.old.tlens.now ≡ 64) × (length s.old.trees.now ≡ tree_room 20)
+        × (size_of (read_tree 20 raw.now) ≡ some (record { entries = size.entries; bytes = size.name_bytes })) × (size.entries ≤ 1024) × (size.name_bytes ≤ 16384) }
+    ensures done { (t : Tree) → read_tree 20 raw.now ≡ some t → (order : List ℕ) → length order ≡ 64
+        → Holds sha1 s.new.ed s.new.plens.now s.new.paths.now s.new.tlens.now s.new.trees.now order
+        × (editor_of 20 s.new.ed s.new.plens.now s.new.paths.now s.new.tlens.now s.new.trees.now order ≡ root_only t) }
+    ensures lent { SameLent s.old s.new }
+{
+    s.drop_all(WIDTH);
+    store_trees::load::load(s, WIDTH, b"", raw, size);
+}
+
+// The same in slices that may be longer.
+fn root_fronts(
+    ed: &mut Record,
     plens: &mut [u64],
     paths: &mut [u8],
     tlens: &mut [u64],
     trees: &mut [u8],
     raw: &[u8],
-    entries: usize,
-    name_bytes: usize,
-) -> Record
-    requires { (length plens.old ≡ 64) × (length paths.old ≡ 8192) × (length tlens.old ≡ 64) × (length trees.old ≡ tree_room 20)
-        × (size_of (read_tree 20 raw.now) ≡ some (record { entries = entries; bytes = name_bytes })) × (entries ≤ 1024) × (name_bytes ≤ 16384) }
-    ensures { (t : Tree) → read_tree 20 raw.now ≡ some t → (order : List ℕ) → length order ≡ 64
-        → Holds sha1 result plens.new paths.new tlens.new trees.new order
-        × (editor_of 20 result plens.new paths.new tlens.new trees.new order ≡ root_only t) }
+    size: Size,
+)
+    requires { (64 ≤ length plens.old) × (8192 ≤ length paths.old) × (64 ≤ length tlens.old) × (38912 ≤ length trees.old)
+        × (size_of (read_tree 20 raw.now) ≡ some (record { entries = size.entries; bytes = size.name_bytes })) × (size.entries ≤ 1024) × (size.name_bytes ≤ 16384) }
+    ensures { (order : List ℕ) → 64 ≤ length order
+        → Roots raw.now (lent ed.old plens.old paths.old tlens.old trees.old order) 0 (lent ed.new plens.new paths.new tlens.new trees.new order) }
 {
-    let none = store_slots::drop_all(plens, paths, tlens, trees, WIDTH);
-    let root = names::part::front(raw, 0);
-    let one = store_trees::load::load(
-        none, plens, paths, tlens, trees, WIDTH, root, raw, entries, name_bytes,
-    );
-    one.editor
+    let mut exact = Store {
+        ed: *ed,
+        plens: &mut plens[..SLOTS],
+        paths: &mut paths[..PATH_BYTES],
+        tlens: &mut tlens[..SLOTS],
+        trees: &mut trees[..TREE_BYTES],
+    };
+    root_only(&mut exact, raw, size);
+    *ed = exact.ed;
 }
 
 // A new root in slices that are long enough: 12, then 5.
-fn rooted(
-    ed: Record,
-    plens: &mut [u64],
-    paths: &mut [u8],
-    tlens: &mut [u64],
-    trees: &mut [u8],
-    raw: &[u8],
-) -> Answer
-    requires { (64 ≤ length plens.old) × (8192 ≤ length paths.old) × (64 ≤ length tlens.old) × (38912 ≤ length trees.old) }
-    ensures { (order : List ℕ) → 64 ≤ length order
-        → Roots raw.now (lent ed plens.old paths.old tlens.old trees.old order) (code_number result.code)
-        (lent result.ed plens.new paths.new tlens.new trees.new order) }
+fn rooted(s: &mut Store<'_>, raw: &[u8]) -> Result<(), Refusal>
+    requires { (64 ≤ length s.old.plens.now) × (8192 ≤ length s.old.paths.now) × (64 ≤ length s.old.tlens.now) × (38912 ≤ length s.old.trees.now) }
+    ensures done { (order : List ℕ) → 64 ≤ length order
+        → Roots raw.now (lent_in s.old order) (code_number result)
+        (lent_in s.new order) }
+    ensures lent { SameLent s.old s.new }
 {
-    match names::tree::well_formed(raw, WIDTH) {
-        Checked::Broken => Answer {
-            code: Code::BadRoot,
-            ed,
-        },
-        Checked::WellFormed {
-            entries,
-            name_bytes,
-        } => {
-            if ENTRIES < entries {
-                return Answer {
-                    code: Code::NoRoom,
-                    ed,
-                };
-            }
-            if NAME_BYTES < name_bytes {
-                return Answer {
-                    code: Code::NoRoom,
-                    ed,
-                };
-            }
-            let q = root_only(
-                &mut plens[..SLOTS],
-                &mut paths[..PATH_BYTES],
-                &mut tlens[..SLOTS],
-                &mut trees[..TREE_BYTES],
-                raw,
-                entries,
-                name_bytes,
-            );
-            Answer {
-                code: Code::Done,
-                ed: q,
-            }
-        }
+    let size = names::tree::well_formed(raw, WIDTH).ok_or(Refusal::BadRoot)?;
+    if ENTRIES < size.entries || NAME_BYTES < size.name_bytes {
+        return Err(Refusal::NoRoom);
     }
+    root_fronts(&mut s.ed, &mut *s.plens, &mut *s.paths, &mut *s.tlens, &mut *s.trees, raw, size);
+    Ok(())
 }
 
 // Whether the slices are as long as a store.
-fn long_enough(plens: &[u64], paths: &[u8], tlens: &[u64], trees: &[u8], order: &[u64]) -> bool
-    ensures { (ed : Record) → Decides (Long (lent ed plens.now paths.now tlens.now trees.now order.now)) result }
+fn long_enough(v: View<'_>, order: &[u64]) -> bool
+    ensures { (ed : Record) → Decides (Long (lent ed v.entry.plens.now v.entry.paths.now v.entry.tlens.now v.entry.trees.now order.now)) result }
 {
-    if plens.len() < SLOTS {
-        return false;
-    }
-    if paths.len() < PATH_BYTES {
-        return false;
-    }
-    if tlens.len() < SLOTS {
-        return false;
-    }
-    if trees.len() < TREE_BYTES {
-        return false;
-    }
-    if order.len() < SLOTS {
-        return false;
-    }
-    true
+    SLOTS <= v.plens.len()
+        && PATH_BYTES <= v.paths.len()
+        && SLOTS <= v.tlens.len()
+        && TREE_BYTES <= v.trees.len()
+        && SLOTS <= order.len()
 }
 
 // Makes an editor with this root. Looks at no earlier content of the store.
-pub fn new(
-    ed: Record,
-    plens: &mut [u64],
-    paths: &mut [u8],
-    tlens: &mut [u64],
-    trees: &mut [u8],
-    order: &[u64],
-    raw: &[u8],
-) -> Answer
-    ensures { Makes raw.now (lent ed plens.old paths.old tlens.old trees.old order.now) (code_number result.code)
-        (lent result.ed plens.new paths.new tlens.new trees.new order.now) }
+pub fn new(s: &mut Store<'_>, order: &[u64], raw: &[u8]) -> Result<(), Refusal>
+    ensures done { Makes raw.now (lent_in s.old order.now) (code_number result)
+        (lent_in s.new order.now) }
+    ensures lent { SameLent s.old s.new }
 {
-    if !long_enough(plens, paths, tlens, trees, order) {
-        return Answer {
-            code: Code::StoreDamaged,
-            ed,
-        };
+    if !long_enough(s.view(), order) {
+        return Err(Refusal::StoreDamaged);
     }
-    rooted(ed, plens, paths, tlens, trees, raw)
+    rooted(s, raw)
 }
 
 // Sets the root, and drops every cached tree.
-pub fn set_root(
-    ed: Record,
-    plens: &mut [u64],
-    paths: &mut [u8],
-    tlens: &mut [u64],
-    trees: &mut [u8],
-    order: &[u64],
-    raw: &[u8],
-) -> Answer
-    ensures { Does (set_root sha1 raw.now) (lent ed plens.old paths.old tlens.old trees.old order.now) (code_number result.code)
-        (lent result.ed plens.new paths.new tlens.new trees.new order.now) }
+pub fn set_root(s: &mut Store<'_>, order: &[u64], raw: &[u8]) -> Result<(), Refusal>
+    ensures done { Does (set_root sha1 raw.now) (lent_in s.old order.now) (code_number result)
+        (lent_in s.new order.now) }
+    ensures lent { SameLent s.old s.new }
 {
-    if !store_check::holds::holds(ed, plens, paths, tlens, trees, order) {
-        return Answer {
-            code: Code::StoreDamaged,
-            ed,
-        };
+    if !store_check::holds::holds(s.view(), order) {
+        return Err(Refusal::StoreDamaged);
     }
-    if ed.open != 0 {
-        return Answer {
-            code: Code::WriteOpen,
-            ed,
-        };
+    if s.ed.open != 0 {
+        return Err(Refusal::WriteOpen);
     }
-    rooted(ed, plens, paths, tlens, trees, raw)
+    rooted(s, raw)
 }

@@ -1,11 +1,13 @@
 -- Laws of going down: the measure's landing and the walk's entering go by one plan, and the code's answer is that plan. Assumes nothing.
-use Prim.Native.Nat.{ℕ, ◌-◌, ◌≤◌}
+use Prim.Native.Nat.{ℕ}
 use mathlib.Core.Path.{◌≡◌, refl, sym, ap, ◌∙◌, subst}
 use mathlib.Core.List.{List, []}
 use mathlib.Core.Bool.{Bool, true, false}
 use mathlib.Core.Option.{Option, none, some}
+use denote.Ref.{Bor}
+use Rattle.std.specs.Prelude.{Option as Opt, Some, None}
 use native.Mathlib.Omega.{arith}
-use lib.ListN.{length, get_or, take, drop}
+use lib.ListN.{length, get_or}
 use Rattle.model.specs.Bytes.{Bytes, same}
 use Rattle.model.specs.Map.{find, is_some}
 use Rattle.model.specs.Tree.{Tree, name_bytes}
@@ -21,22 +23,18 @@ use Rattle.model.proofs.Basics.{none_some}
 use Rattle.names_compact.proofs.PackLaws.{size_inv}
 use Rattle.names.specs.Answers.{checked_as}
 use Rattle.names.specs.Check.{size_of}
-use Rattle.names.specs.declared.tree.Checked.{Checked}
-use Rattle.names.specs.declared.tree.Checked.TheVariants.{WellFormed, Broken}
+use Rattle.names.specs.declared.tree.Size.{Size}
 use Rattle.store_runs.specs.Digits.{digits}
 use Rattle.store_runs.specs.Runs.{cut}
 use Rattle.store_runs.proofs.RunLaws.{length_cut}
 use Rattle.store_runs.proofs.DigitLaws.{length_digits}
-use Rattle.store_runs.specs.declared.runs.Found.TheVariants as F
 use Rattle.store_slots.specs.declared.Record.{Record}
 use Rattle.store_slots.specs.View.{view_of, cached_of, held_in, Laid, Used, path_of}
 use Rattle.store_slots.proofs.Cached.{cached_view}
 use Rattle.editor_terms.specs.Answers.{code_number}
-use Rattle.editor_terms.specs.Objects.{bytes_at, FoundIn}
+use Rattle.editor_terms.specs.Objects.{raw_as}
 use Rattle.editor_terms.specs.declared.code.Code.{Code}
 use Rattle.editor_terms.specs.declared.code.Code.TheVariants.{TreeNotFound, TreeDamaged}
-use Rattle.editor_terms.specs.declared.table.Object.{Object}
-use Rattle.editor_terms.specs.declared.table.Object.TheVariants as O
 use Rattle.editor_walk.specs.Landings.{Plan, caches, stops, pick_plan, tree_plan, read_plan, planned, landed_by, entered_by, RawIs, PlanIs, SlotFound, LandsAs}
 use Rattle.editor_walk.specs.declared.land.Raw.{Raw}
 use Rattle.editor_walk.specs.declared.land.Landing.{Landing}
@@ -108,34 +106,25 @@ pub size_none : (o : Option Tree) → none ≡ size_of o → o ≡ none
 size_none none e = refl
 size_none (some t) e = none_some (record { entries = length t; bytes = name_bytes t }) e
 
-module _ (T : Table) (i raws : Bytes) {x : Object} (f : FoundIn (looked_up 20 T i) raws x) where
-  wanted : looked_up sha1.width T i ≡ bytes_at raws x
-  wanted = ap (λ (w : ℕ). looked_up w T i) wide ∙ f.is
+module _ (T : Table) (i : Bytes) (x : Opt (Bor Bytes)) (f : looked_up 20 T i ≡ raw_as x) where
+  wanted : looked_up sha1.width T i ≡ raw_as x
+  wanted = ap (λ (w : ℕ). looked_up w T i) wide ∙ f
 
-  pub plan_lost : x ≡ O.Nothing → PlanIs raws (read_plan sha1 (looked_up sha1.width T i)) (Halt TreeNotFound)
-  plan_lost e = ap (read_plan sha1) (wanted ∙ ap (bytes_at raws) e)
+  pub plan_lost : x ≡ None → PlanIs (read_plan sha1 (looked_up sha1.width T i)) (Halt TreeNotFound)
+  plan_lost e = ap (read_plan sha1) (wanted ∙ ap raw_as e)
 
-  module _ {from to : ℕ} (e : x ≡ O.At from to) where
-    pub in_raws : (from ≤ to) × (to ≤ length raws)
-    in_raws = (subst (λ (z : Object). FoundIn (looked_up 20 T i) raws z) e f).within
+  module _ {raw : Bor Bytes} (e : x ≡ Some raw) where
+    plan_is : read_plan sha1 (looked_up sha1.width T i) ≡ tree_plan (read_tree 20 raw.now)
+    plan_is = ap (read_plan sha1) (wanted ∙ ap raw_as e) ∙ ap (λ (w : ℕ). tree_plan (read_tree w raw.now)) wide
 
-    abbrev raw : Bytes
-    raw = take (to - from) (drop from raws)
+    module _ {c : Opt Size} (s : checked_as c ≡ size_of (read_tree 20 raw.now)) where
+      pub plan_broken : c ≡ None → PlanIs (read_plan sha1 (looked_up sha1.width T i)) (Halt TreeDamaged)
+      plan_broken b = plan_is ∙ ap tree_plan (size_none (read_tree 20 raw.now) (sym (ap checked_as b) ∙ s))
 
-    plan_is : read_plan sha1 (looked_up sha1.width T i) ≡ tree_plan (read_tree 20 raw)
-    plan_is = ap (read_plan sha1) (wanted ∙ ap (bytes_at raws) e) ∙ ap (λ (w : ℕ). tree_plan (read_tree w raw)) wide
-
-    module _ {bytes : Bytes} {n : ℕ} (en : n ≡ to - from) (eb : bytes ≡ take n (drop from raws)) (c : Checked) (s : checked_as c ≡ size_of (read_tree 20 bytes)) where
-      checked : checked_as c ≡ size_of (read_tree 20 raw)
-      checked = s ∙ ap (λ (l : Bytes). size_of (read_tree 20 l)) (eb ∙ ap (λ (k : ℕ). take k (drop from raws)) en)
-
-      pub plan_broken : c ≡ Broken → PlanIs raws (read_plan sha1 (looked_up sha1.width T i)) (Halt TreeDamaged)
-      plan_broken b = plan_is ∙ ap tree_plan (size_none (read_tree 20 raw) (sym (ap checked_as b) ∙ checked))
-
-      pub plan_load : {entries names : ℕ} → c ≡ WellFormed entries names → PlanIs raws (read_plan sha1 (looked_up sha1.width T i)) (Load (record { from = from; to = to; entries = entries; names = names }))
-      plan_load {entries} {names} b =
-          let (t, r, en, nn) = size_inv (read_tree 20 raw) (record { entries = entries; bytes = names }) (sym (ap checked_as b) ∙ checked) in
-          (t, record { order = in_raws.0; inside = in_raws.1; reads = r; entries = en; names = nn }, plan_is ∙ ap tree_plan r)
+      pub plan_load : {size : Size} → c ≡ Some size → PlanIs (read_plan sha1 (looked_up sha1.width T i)) (Load (record { bytes = raw; size = size }))
+      plan_load {size} b =
+          let (t, r, en, nn) = size_inv (read_tree 20 raw.now) (record { entries = size.entries; bytes = size.name_bytes }) (sym (ap checked_as b) ∙ s) in
+          (t, record { reads = r; entries = en; names = nn }, plan_is ∙ ap tree_plan r)
 
 -- an id that is given
 module _ (T : Table) (leaf : Bool) (i : Bytes) where
@@ -146,20 +135,20 @@ module _ (T : Table) (leaf : Bool) (i : Bytes) where
   plan_empty e f = ap (λ (z : Bool). pick_plan z (pick_plan leaf (stops 0) (caches [])) (read_plan sha1 (looked_up sha1.width T i))) (sym e ∙ f)
 
 -- no slot is at the path
-pub lands_new : (raws : Bytes) (x : Plan) (ds : List ℕ) (ps : List Bytes) (q : Bytes) (r : Landing) → SlotFound ds ps q F.Nothing → PlanIs raws x r → LandsAs raws x ds ps q r
-lands_new raws x ds ps q (There slot) f p = absurd p
-lands_new raws x ds ps q Fresh f p = (f, p)
-lands_new raws x ds ps q (Load r) f p = (f, p)
-lands_new raws x ds ps q (Halt code) f p = (f, p)
+pub lands_new : (x : Plan) (ds : List ℕ) (ps : List Bytes) (q : Bytes) (r : Landing) → SlotFound ds ps q None → PlanIs x r → LandsAs x ds ps q r
+lands_new x ds ps q (There slot) f p = absurd p
+lands_new x ds ps q Fresh f p = (f, p)
+lands_new x ds ps q (Load r) f p = (f, p)
+lands_new x ds ps q (Halt code) f p = (f, p)
 
 -- for a caller: what the answer says, in a store with no write open
-module _ (T : Table) (e : Edit) (i : Option Bytes) {r : Record} {plens paths tlens trees : List ℕ} (L : Laid 20 r plens paths tlens trees) (cl : r.hidden ≡ r.free) (raws q : Bytes) (x : Landing)
-    (l : LandsAs raws (planned sha1 T (is_leaf_removal e) i) (digits 64 r.hidden) (cut plens paths) q x) where
+module _ (T : Table) (e : Edit) (i : Option Bytes) {r : Record} {plens paths tlens trees : List ℕ} (L : Laid 20 r plens paths tlens trees) (cl : r.hidden ≡ r.free) (q : Bytes) (x : Landing)
+    (l : LandsAs (planned sha1 T (is_leaf_removal e) i) (digits 64 r.hidden) (cut plens paths) q x) where
   abbrev view : Cache
   view = view_of 20 r plens paths tlens trees
 
   abbrev LandsTo : Landing → Type 0
-  LandsTo y = LandsAs raws (planned sha1 T (is_leaf_removal e) i) (digits 64 r.hidden) (cut plens paths) q y
+  LandsTo y = LandsAs (planned sha1 T (is_leaf_removal e) i) (digits 64 r.hidden) (cut plens paths) q y
 
   all_runs : length (cut tlens trees) ≡ 64
   all_runs = length_cut tlens trees ∙ L.tlens_64
@@ -167,12 +156,12 @@ module _ (T : Table) (e : Edit) (i : Option Bytes) {r : Record} {plens paths tle
   found_in : (o : Option Held) → find at q (cached_of 20 r plens paths tlens trees) ≡ o → find at q view ≡ o
   found_in o h = ap (find at q) (sym (cached_view 20 r plens paths tlens trees cl)) ∙ h
 
-  none_there : SlotFound (digits 64 r.hidden) (cut plens paths) q F.Nothing → find at q view ≡ none
+  none_there : SlotFound (digits 64 r.hidden) (cut plens paths) q None → find at q view ≡ none
   none_there f = found_in none (f 20 (cut tlens trees) all_runs).0
 
   pub there_slot : {s : ℕ} → x ≡ There s → Used r s × (path_of plens paths s ≡ q) × (find at q view ≡ some (held_in 20 q (get_or (cut tlens trees) s [])))
   there_slot {s} h =
-      let f : SlotFound (digits 64 r.hidden) (cut plens paths) q (F.At s) = subst LandsTo h l in
+      let f : SlotFound (digits 64 r.hidden) (cut plens paths) q (Some s) = subst LandsTo h l in
       let g = f 20 (cut tlens trees) all_runs in (
         record { low = omega (arith, g.0, length_digits 64 r.hidden); used = ap (λ (z : ℕ). get_or (digits 64 z) s 0) (sym cl) ∙ g.1 },
         g.2,
@@ -184,7 +173,7 @@ module _ (T : Table) (e : Edit) (i : Option Bytes) {r : Record} {plens paths tle
       let g : LandsTo Fresh = subst LandsTo h l in
       (none_there g.0, g.1)
 
-  pub load_plan : {y : Raw} → x ≡ Load y → (find at q view ≡ none) × ((t : Tree) × RawIs raws y t × (planned sha1 T (is_leaf_removal e) i ≡ caches t))
+  pub load_plan : {y : Raw} → x ≡ Load y → (find at q view ≡ none) × ((t : Tree) × RawIs y t × (planned sha1 T (is_leaf_removal e) i ≡ caches t))
   load_plan {y} h =
       let g : LandsTo (Load y) = subst LandsTo h l in
       (none_there g.0, g.1)

@@ -24,7 +24,6 @@ use Rattle.names.specs.declared.mode.EntryKind.{EntryKind}
 use Rattle.store_runs.specs.Digits.{digits}
 use Rattle.store_runs.specs.Runs.{cut, run_of}
 use Rattle.store_runs.proofs.RunLaws.{length_cut}
-use Rattle.store_runs.specs.declared.runs.Found.TheVariants as F
 use Rattle.store_slots.specs.declared.Record.{Record}
 use Rattle.store_slots.specs.View.{slots_of, gather, view_of, Laid, Used, path_of, tree_of, SlotIs}
 use Rattle.store_slots.proofs.Cached.{cached_view}
@@ -32,15 +31,14 @@ use Rattle.store_slots.proofs.Relaid.{find_slot}
 use Rattle.store_slots.proofs.Changes.{tree_run}
 use Rattle.editor_terms.specs.Ids.{id_bytes}
 use Rattle.editor_terms.specs.Edits.{parts_of, seen_as}
-use Rattle.editor_terms.specs.declared.edit.Seen.TheVariants as S
+use Rattle.editor_terms.specs.declared.edit.Seen.{Seen}
 use Rattle.editor_terms.specs.declared.id.Id.{Id}
 use Rattle.editor_terms.proofs.EditLaws.{seen_none, seen_some}
 use Rattle.names.proofs.FrontLaws.{Front, front_begin, front_here, front_next, piece_short, piece_slash}
+use Rattle.std.specs.Prelude.{Option as Opt, Some, None, Ok}
+use Rattle.std.specs.declared.ops.ControlFlow.{ControlFlow}
+use Rattle.std.specs.declared.ops.ControlFlow.TheVariants.{Continue, Break}
 use Rattle.editor_walk.specs.Lookups.{looked_as, step_look, LookStepIs}
-use Rattle.editor_walk.specs.declared.look.Looked.{Looked}
-use Rattle.editor_walk.specs.declared.look.Looked.TheVariants.{Found, Missing}
-use Rattle.editor_walk.specs.declared.look.LookStep.{LookStep}
-use Rattle.editor_walk.specs.declared.look.LookStep.TheVariants.{Over, In}
 use Rattle.editor_walk.proofs.ComponentLaws.{components_some, rest_of, rest_nil, last_base, not_last, next_base, pieces_are, either_named}
 
 -- one step, by the entry that was seen
@@ -65,36 +63,36 @@ unfolding made
 entry_is kind m id x en em ei = ap₂ (λ (a : Mode) (l : Bytes). made a m l) (sym em) (sym ei) ∙ ap (λ (l : Bytes). made x.mode l x.id) en
 
 module _ (ds : List ℕ) (ps : List Bytes) (t : Tree) (q n : Bytes) where
-  pub look_none : (b : Bool) → seen_as S.Nothing ≡ parts_of (entry_of_lookup n t) → LookStepIs ds ps t q n b (Over Missing)
+  pub look_none : (b : Bool) → seen_as None ≡ parts_of (entry_of_lookup n t) → LookStepIs ds ps t q n b (Break None)
   look_none b s bs l m f rest =
       sym (ap (look_on b (is_some (find at q (gather (slots_of 20 ds ps bs)))) rest) (seen_none (entry_of_lookup n t) s) ∙ on_none b (is_some (find at q (gather (slots_of 20 ds ps bs)))) rest)
 
-  module _ (w : well_formed 20 t ≡ true) (p : Plain n) (kind : EntryKind) (id : Id) (s : seen_as (S.Entry kind id) ≡ parts_of (entry_of_lookup n t)) where
-    pub look_found : (b : Bool) → b ≡ true → LookStepIs ds ps t q n b (Over (Found kind id))
+  module _ (w : well_formed 20 t ≡ true) (p : Plain n) (v : Seen) (s : seen_as (Some v) ≡ parts_of (entry_of_lookup n t)) where
+    pub look_found : (b : Bool) → b ≡ true → LookStepIs ds ps t q n b (Break (Some v))
     look_found b e bs l m f rest =
-        let x = seen_some kind id (entry_of_lookup n t) s in
+        let x = seen_some v (entry_of_lookup n t) s in
         let h = either_named t n x.0 true false w p x.1 in
-        ap model.found (entry_is kind m id x.0 (f e ∙ sym h.0) x.2 x.3)
+        ap model.found (entry_is v.kind m v.id x.0 (f e ∙ sym h.0) x.2 x.3)
         ∙ sym (ap₂ (λ (z : Bool) (o : Option Entry). look_on z (is_some (find at q (gather (slots_of 20 ds ps bs)))) rest o) e x.1 ∙ on_last (is_some (find at q (gather (slots_of 20 ds ps bs)))) rest x.0)
 
     module _ (b : Bool) (e : b ≡ false) where
-      earlier : (bs : List Bytes) (rest : model.Looked) → step_look ds ps t q n b bs rest ≡ model.pick_looked (is_tree (as_mode kind) && is_some (find at q (gather (slots_of 20 ds ps bs)))) rest model.missing
+      earlier : (bs : List Bytes) (rest : model.Looked) → step_look ds ps t q n b bs rest ≡ model.pick_looked (is_tree (as_mode v.kind) && is_some (find at q (gather (slots_of 20 ds ps bs)))) rest model.missing
       earlier bs rest =
-          let x = seen_some kind id (entry_of_lookup n t) s in
+          let x = seen_some v (entry_of_lookup n t) s in
           ap₂ (λ (z : Bool) (o : Option Entry). look_on z (is_some (find at q (gather (slots_of 20 ds ps bs)))) rest o) e x.1
           ∙ on_earlier (is_some (find at q (gather (slots_of 20 ds ps bs)))) rest x.0
           ∙ ap (λ (z : Mode). model.pick_looked (is_tree z && is_some (find at q (gather (slots_of 20 ds ps bs)))) rest model.missing) x.2
 
-      pub look_other : is_tree (as_mode kind) ≡ false → LookStepIs ds ps t q n b (Over Missing)
+      pub look_other : is_tree (as_mode v.kind) ≡ false → LookStepIs ds ps t q n b (Break None)
       look_other f bs l m g rest = sym (earlier bs rest ∙ ap (λ (z : Bool). model.pick_looked (z && is_some (find at q (gather (slots_of 20 ds ps bs)))) rest model.missing) f)
 
-      pub look_uncached : ((v : ℕ) (runs : List Bytes) → length runs ≡ 64 → SlotIs v ds ps runs q F.Nothing) → LookStepIs ds ps t q n b (Over Missing)
+      pub look_uncached : ((w : ℕ) (runs : List Bytes) → length runs ≡ 64 → SlotIs w ds ps runs q None) → LookStepIs ds ps t q n b (Break None)
       look_uncached g bs l m f rest =
-          sym (earlier bs rest ∙ ap (λ (o : Option Held). model.pick_looked (is_tree (as_mode kind) && is_some o) rest model.missing) (g 20 bs l).0 ∙ ap (λ (z : Bool). model.pick_looked z rest model.missing) (and_false (is_tree (as_mode kind))))
+          sym (earlier bs rest ∙ ap (λ (o : Option Held). model.pick_looked (is_tree (as_mode v.kind) && is_some o) rest model.missing) (g 20 bs l).0 ∙ ap (λ (z : Bool). model.pick_looked z rest model.missing) (and_false (is_tree (as_mode v.kind))))
 
-      pub look_on_lem : is_tree (as_mode kind) ≡ true → length ds ≡ 64 → length ps ≡ 64 → (k : ℕ) → ((v : ℕ) (runs : List Bytes) → length runs ≡ 64 → SlotIs v ds ps runs q (F.At k)) → LookStepIs ds ps t q n b (In k)
+      pub look_on_lem : is_tree (as_mode v.kind) ≡ true → length ds ≡ 64 → length ps ≡ 64 → (k : ℕ) → ((w : ℕ) (runs : List Bytes) → length runs ≡ 64 → SlotIs w ds ps runs q (Some k)) → LookStepIs ds ps t q n b (Continue k)
       look_on_lem f ld lp k g =
-          let x = seen_some kind id (entry_of_lookup n t) s in
+          let x = seen_some v (entry_of_lookup n t) s in
           let h = either_named t n x.0 true false w p x.1 in
           let i = g 20 ps lp in (
             e,
@@ -127,7 +125,7 @@ look_begin r plens paths tlens trees whole path slot u e n =
       rest = ap (λ (ns : List Bytes). look ns (path_of plens paths slot) (view_of 20 r plens paths tlens trees)) (components_some path n);
     }
 
-next_same : (ds : List ℕ) (ps : List Bytes) {t u : Tree} {q q' n n' : Bytes} (b : Bool) (y : LookStep) → t ≡ u → q ≡ q' → n ≡ n' → LookStepIs ds ps t q n b y → LookStepIs ds ps u q' n' b y
+next_same : (ds : List ℕ) (ps : List Bytes) {t u : Tree} {q q' n n' : Bytes} (b : Bool) (y : ControlFlow (Opt Seen) ℕ) → t ≡ u → q ≡ q' → n ≡ n' → LookStepIs ds ps t q n b y → LookStepIs ds ps u q' n' b y
 next_same ds ps {t} {u} {q} {q'} {n} {n'} b y et eq en h =
     subst (λ (z : Tree). LookStepIs ds ps z q' n' b y) et (subst (λ (z : Bytes). LookStepIs ds ps t z n' b y) eq (subst (λ (z : Bytes). LookStepIs ds ps t q z b y) en h))
 
@@ -147,7 +145,7 @@ module _ {r : Record} {plens paths tlens trees : List ℕ} {whole : Bytes} {goal
       ∙ ap (λ (c : Cache). look_on b (is_some (find at (join q (take k p)) c)) (look (rest_of b p k) (join q (take k p)) view) (entry_of_lookup (take k p) (tree_of 20 tlens trees slot))) (sym (cached_view 20 r plens paths tlens trees cl))
 
   module _ {tree below name : Bytes} {end : ℕ} (et : tree ≡ run_of tlens trees slot) (ee : end ≡ length whole - length p + k) (ew : below ≡ take end whole) (en : name ≡ take k p) where
-    placed : (y : LookStep) → LookStepIs (digits 64 r.hidden) (cut plens paths) (unpack 20 tree) below name b y →
+    placed : (y : ControlFlow (Opt Seen) ℕ) → LookStepIs (digits 64 r.hidden) (cut plens paths) (unpack 20 tree) below name b y →
         LookStepIs (digits 64 r.hidden) (cut plens paths) (tree_of 20 tlens trees slot) (join q (take k p)) (take k p) b y
     placed y h =
         next_same (digits 64 r.hidden) (cut plens paths) b y (ap (unpack 20) et ∙ tree_run 20 r plens paths tlens trees L slot s.used.low) (ew ∙ front_here s.front k end (piece_short p k e) ee) en h
@@ -155,14 +153,14 @@ module _ {r : Record} {plens paths tlens trees : List ℕ} {whole : Bytes} {goal
     all_runs : length (cut tlens trees) ≡ 64
     all_runs = length_cut tlens trees ∙ L.tlens_64
 
-    pub look_over : {y : LookStep} → LookStepIs (digits 64 r.hidden) (cut plens paths) (unpack 20 tree) below name b y → {x : Looked} → y ≡ Over x → looked_as (base path) x ≡ goal
+    pub look_over : {y : ControlFlow (Opt Seen) ℕ} → LookStepIs (digits 64 r.hidden) (cut plens paths) (unpack 20 tree) below name b y → {x : Opt Seen} → y ≡ Break x → looked_as (base path) (Ok x) ≡ goal
     look_over {y} h {x} ey =
-        let g = placed (Over x) (subst (LookStepIs (digits 64 r.hidden) (cut plens paths) (unpack 20 tree) below name b) ey h) in
+        let g = placed (Break x) (subst (LookStepIs (digits 64 r.hidden) (cut plens paths) (unpack 20 tree) below name b) ey h) in
         g (cut tlens trees) all_runs (base path) (λ t. sym s.named ∙ last_base p k e eb t) (look (rest_of b p k) (join q (take k p)) view) ∙ sym step
 
-    module _ {y : LookStep} (h : LookStepIs (digits 64 r.hidden) (cut plens paths) (unpack 20 tree) below name b y) {x : ℕ} (ey : y ≡ In x) where
-      goes_on_lem : LookStepIs (digits 64 r.hidden) (cut plens paths) (tree_of 20 tlens trees slot) (join q (take k p)) (take k p) b (In x)
-      goes_on_lem = placed (In x) (subst (LookStepIs (digits 64 r.hidden) (cut plens paths) (unpack 20 tree) below name b) ey h)
+    module _ {y : ControlFlow (Opt Seen) ℕ} (h : LookStepIs (digits 64 r.hidden) (cut plens paths) (unpack 20 tree) below name b y) {x : ℕ} (ey : y ≡ Continue x) where
+      goes_on_lem : LookStepIs (digits 64 r.hidden) (cut plens paths) (tree_of 20 tlens trees slot) (join q (take k p)) (take k p) b (Continue x)
+      goes_on_lem = placed (Continue x) (subst (LookStepIs (digits 64 r.hidden) (cut plens paths) (unpack 20 tree) below name b) ey h)
 
       pub look_shorter : k < length p
       look_shorter = not_last p k e eb goes_on_lem.0

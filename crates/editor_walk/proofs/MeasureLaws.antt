@@ -4,6 +4,7 @@ use mathlib.Core.Path.{◌≡◌, refl, sym, ap, ap₂, ◌∙◌, subst}
 use mathlib.Core.List.{List, [], ◌∷◌}
 use mathlib.Core.Bool.{Bool, true, false, not, ◌&&◌, ◌||◌}
 use mathlib.Core.Option.{Option, none}
+use Rattle.std.specs.Prelude.{Option as Opt}
 use native.Mathlib.Omega.{arith}
 use lib.Dec.{eqb}
 use lib.ListN.{length, take, drop}
@@ -21,6 +22,7 @@ use Rattle.model.specs.Measure.{Counts, counts_of, within, plus_tree, seen, land
 use Rattle.model.specs.Measure as model
 use Rattle.model.proofs.Basics.{no_way}
 use Rattle.names.specs.Places.{first_piece}
+use Rattle.names.specs.declared.tree.Size.{Size}
 use Rattle.names_compact.specs.Compact.{unpack}
 use Rattle.store_runs.proofs.FindLaws.{cut_at}
 use Rattle.store_runs.specs.Runs.{cut, run_of}
@@ -74,8 +76,8 @@ unfolding over
 over_code k = refl
 
 -- steps
-module _ {tlens trees : List ℕ} {raws : Bytes} {m : Next → Measured} {g : MeasureStep} where
-  pub ends_past : EndsAs 5 false g → ((next : Next) → (m next).kept ≡ false) → StepIs tlens trees raws m g
+module _ {tlens trees : List ℕ} {m : Next → Measured} {g : MeasureStep} where
+  pub ends_past : EndsAs 5 false g → ((next : Next) → (m next).kept ≡ false) → StepIs tlens trees m g
   ends_past e h =
       record {
         past = λ k. (e.code, h);
@@ -84,7 +86,7 @@ module _ {tlens trees : List ℕ} {raws : Bytes} {m : Next → Measured} {g : Me
         done = λ k s. no_way (sym k ∙ e.kept);
       }
 
-  pub ends_stop : {x : ℕ} → EndsAs x true g → ((next : Next) → m next ≡ over x) → StepIs tlens trees raws m g
+  pub ends_stop : {x : ℕ} → EndsAs x true g → ((next : Next) → m next ≡ over x) → StepIs tlens trees m g
   ends_stop e h =
       record {
         past = λ k. no_way (sym e.kept ∙ k);
@@ -93,7 +95,7 @@ module _ {tlens trees : List ℕ} {raws : Bytes} {m : Next → Measured} {g : Me
         done = λ k s. no_way (sym s ∙ e.going);
       }
 
-step_same : {tlens trees : List ℕ} {raws : Bytes} {m n : Next → Measured} {g : MeasureStep} → ((next : Next) → n next ≡ m next) → StepIs tlens trees raws m g → StepIs tlens trees raws n g
+step_same : {tlens trees : List ℕ} {m n : Next → Measured} {g : MeasureStep} → ((next : Next) → n next ≡ m next) → StepIs tlens trees m g → StepIs tlens trees n g
 step_same h k =
     record {
       past = λ a. let (x, y) = k.past a in (x, λ next. ap (λ (z : Measured). z.kept) (h next) ∙ y next);
@@ -103,24 +105,24 @@ step_same h k =
     }
 
 -- a tree that is to be cached
-module _ {level : Level} {entries names n : ℕ} {u : Counts} where
-  pub cached_entries : {g : MeasureStep} → 1024 < entries → EndsAs 5 false g → CachesAs level entries names n u g
+module _ {level : Level} {size : Size} {n : ℕ} {u : Counts} where
+  pub cached_entries : {g : MeasureStep} → 1024 < size.entries → EndsAs 5 false g → CachesAs level size n u g
   cached_entries h e =
-      record { is = λ tlens trees raws q t en ee em s. ends_past e (λ next. counted_past (plus_tree q t u) (next t (plus_tree q t u)) (many_entries u q t (omega (arith, h, ee)))) }
+      record { is = λ tlens trees q t en ee em s. ends_past e (λ next. counted_past (plus_tree q t u) (next t (plus_tree q t u)) (many_entries u q t (omega (arith, h, ee)))) }
 
-  pub cached_names : {g : MeasureStep} → 16384 < names → EndsAs 5 false g → CachesAs level entries names n u g
+  pub cached_names : {g : MeasureStep} → 16384 < size.name_bytes → EndsAs 5 false g → CachesAs level size n u g
   cached_names h e =
-      record { is = λ tlens trees raws q t en ee em s. ends_past e (λ next. counted_past (plus_tree q t u) (next t (plus_tree q t u)) (many_names u q t (omega (arith, h, em)))) }
+      record { is = λ tlens trees q t en ee em s. ends_past e (λ next. counted_past (plus_tree q t u) (next t (plus_tree q t u)) (many_names u q t (omega (arith, h, em)))) }
 
-  module _ (v : CodeCounts) (ev : (q : Bytes) (t : Tree) → n ≡ length q → entries ≡ length t → names ≡ name_bytes t → counts_as v ≡ plus_tree q t u) where
-    pub cached_past : {g : MeasureStep} → within (counts_as v) ≡ false → EndsAs 5 false g → CachesAs level entries names n u g
+  module _ (v : CodeCounts) (ev : (q : Bytes) (t : Tree) → n ≡ length q → size.entries ≡ length t → size.name_bytes ≡ name_bytes t → counts_as v ≡ plus_tree q t u) where
+    pub cached_past : {g : MeasureStep} → within (counts_as v) ≡ false → EndsAs 5 false g → CachesAs level size n u g
     cached_past h e =
-        record { is = λ tlens trees raws q t en ee em s. ends_past e (λ next. counted_past (plus_tree q t u) (next t (plus_tree q t u)) (ap within (sym (ev q t en ee em)) ∙ h)) }
+        record { is = λ tlens trees q t en ee em s. ends_past e (λ next. counted_past (plus_tree q t u) (next t (plus_tree q t u)) (ap within (sym (ev q t en ee em)) ∙ h)) }
 
-    pub cached_on : within (counts_as v) ≡ true → CachesAs level entries names n u (record { code = Done; kept = true; going = true; level = level; counts = v })
+    pub cached_on : within (counts_as v) ≡ true → CachesAs level size n u (record { code = Done; kept = true; going = true; level = level; counts = v })
     cached_on h =
         record {
-          is = λ tlens trees raws q t en ee em s.
+          is = λ tlens trees q t en ee em s.
               let e = ev q t en ee em in
               record {
                 past = λ k. no_way k;
@@ -147,8 +149,8 @@ module _ {x : Landing} {n : ℕ} where
   pub landed_there : (u : CodeCounts) → within (counts_as u) ≡ true → {s : ℕ} → x ≡ There s → LandedAs x n (counts_as u) (record { code = Done; kept = true; going = true; level = Slot s; counts = u })
   landed_there u w {s} ex =
       record {
-        is = λ tlens trees raws q l en li.
-            let h : LandIs tlens trees raws q (counts_as u) (There s) l = subst (λ (z : Landing). LandIs tlens trees raws q (counts_as u) z l) ex li in
+        is = λ tlens trees q l en li.
+            let h : LandIs tlens trees q (counts_as u) (There s) l = subst (λ (z : Landing). LandIs tlens trees q (counts_as u) z l) ex li in
             record {
               past = λ k. no_way k;
               stop = λ k a. no_way a;
@@ -161,49 +163,49 @@ module _ {x : Landing} {n : ℕ} where
     pub landed_halt : {code : Code} → EndsAs (code_number code) true g → x ≡ Halt code → LandedAs x n u g
     landed_halt {code} e ex =
         record {
-          is = λ tlens trees raws q l en li.
-              let h : LandIs tlens trees raws q u (Halt code) l = subst (λ (z : Landing). LandIs tlens trees raws q u z l) ex li in
+          is = λ tlens trees q l en li.
+              let h : LandIs tlens trees q u (Halt code) l = subst (λ (z : Landing). LandIs tlens trees q u z l) ex li in
               ends_stop e (λ next. on_halts next u l (code_number code) h);
         }
 
-    pub landed_fresh : CachesAs Empty 0 0 n u g → x ≡ Fresh → LandedAs x n u g
+    pub landed_fresh : CachesAs Empty (record { entries = 0; name_bytes = 0 }) n u g → x ≡ Fresh → LandedAs x n u g
     landed_fresh k ex =
         record {
-          is = λ tlens trees raws q l en li.
-              let h : LandIs tlens trees raws q u Fresh l = subst (λ (z : Landing). LandIs tlens trees raws q u z l) ex li in
-              step_same (λ next. on_lands next u (plus_tree q [] u) l [] h) (k.is tlens trees raws q [] en refl refl refl);
+          is = λ tlens trees q l en li.
+              let h : LandIs tlens trees q u Fresh l = subst (λ (z : Landing). LandIs tlens trees q u z l) ex li in
+              step_same (λ next. on_lands next u (plus_tree q [] u) l [] h) (k.is tlens trees q [] en refl refl refl);
         }
 
-    pub landed_load : {r : RawTree} → CachesAs (Raw r.from r.to) r.entries r.names n u g → x ≡ Load r → LandedAs x n u g
+    pub landed_load : {r : RawTree} → CachesAs (Raw r.bytes) r.size n u g → x ≡ Load r → LandedAs x n u g
     landed_load {r} k ex =
         record {
-          is = λ tlens trees raws q l en li.
-              let h : LandIs tlens trees raws q u (Load r) l = subst (λ (z : Landing). LandIs tlens trees raws q u z l) ex li in
+          is = λ tlens trees q l en li.
+              let h : LandIs tlens trees q u (Load r) l = subst (λ (z : Landing). LandIs tlens trees q u z l) ex li in
               let t = h.0 in
               let i = h.1 in
-              step_same (λ next. on_lands next u (plus_tree q t u) l t h.2) (k.is tlens trees raws q t en i.entries i.names (i.order, i.inside, i.reads));
+              step_same (λ next. on_lands next u (plus_tree q t u) l t h.2) (k.is tlens trees q t en i.entries i.names i.reads);
         }
 
 -- what going down finds is the model's landing
-pub land_is : (T : Table) (e : walk.Edit) (i : Option Bytes) (ds : List ℕ) (ps : List Bytes) (raws q : Bytes) (u : Counts) (tlens trees : List ℕ) → length ds ≡ 64 → length tlens ≡ 64 →
-    (x : Landing) → LandsAs raws (planned sha1 T (is_leaf_removal e) i) ds ps q x →
-    LandIs tlens trees raws q u x (landing sha1 T e q u i (find at q (gather (slots_of 20 ds ps (cut tlens trees)))))
-land_is T e i ds ps raws q u tlens trees ld lt (There s) l =
+pub land_is : (T : Table) (e : walk.Edit) (i : Option Bytes) (ds : List ℕ) (ps : List Bytes) (q : Bytes) (u : Counts) (tlens trees : List ℕ) → length ds ≡ 64 → length tlens ≡ 64 →
+    (x : Landing) → LandsAs (planned sha1 T (is_leaf_removal e) i) ds ps q x →
+    LandIs tlens trees q u x (landing sha1 T e q u i (find at q (gather (slots_of 20 ds ps (cut tlens trees)))))
+land_is T e i ds ps q u tlens trees ld lt (There s) l =
     let f = l 20 (cut tlens trees) (length_cut tlens trees ∙ lt) in
     (omega (arith, f.0, ld), landing_there sha1 T e q u i (find at q (gather (slots_of 20 ds ps (cut tlens trees)))) _ f.3)
-land_is T e i ds ps raws q u tlens trees ld lt Fresh l =
+land_is T e i ds ps q u tlens trees ld lt Fresh l =
     let f = l.0 20 (cut tlens trees) (length_cut tlens trees ∙ lt) in
     landing_new sha1 T e q u i (find at q (gather (slots_of 20 ds ps (cut tlens trees)))) (caches []) f.0 l.1
-land_is T e i ds ps raws q u tlens trees ld lt (Load r) l =
+land_is T e i ds ps q u tlens trees ld lt (Load r) l =
     let f = l.0 20 (cut tlens trees) (length_cut tlens trees ∙ lt) in
     let (t, k, p) = l.1 in
     (t, k, landing_new sha1 T e q u i (find at q (gather (slots_of 20 ds ps (cut tlens trees)))) (caches t) f.0 p)
-land_is T e i ds ps raws q u tlens trees ld lt (Halt code) l =
+land_is T e i ds ps q u tlens trees ld lt (Halt code) l =
     let f = l.0 20 (cut tlens trees) (length_cut tlens trees ∙ lt) in
     landing_new sha1 T e q u i (find at q (gather (slots_of 20 ds ps (cut tlens trees)))) (stops (code_number code)) f.0 l.1
 
 -- the turn at a component
-module _ (T : Table) (e : walk.Edit) (q : Bytes) (o : Option Held) (n : Bytes) (u : Counts) (s : Seen) (opening : Bool) (next : Next) where
+module _ (T : Table) (e : walk.Edit) (q : Bytes) (o : Option Held) (n : Bytes) (u : Counts) (s : Opt Seen) (opening : Bool) (next : Next) where
   sight_past : (r : Turn) (b : Bool) → within u ≡ true → within (counts_after r s n u) ≡ false → (on_sight sha1 T e opening q o next (sight_as r b s n u)).kept ≡ false
   unfolding on_sight
   sight_past (Stop code) b w h = no_way (sym w ∙ h)
@@ -234,8 +236,8 @@ module _ (T : Table) (e : walk.Edit) (q : Bytes) (o : Option Held) (n : Bytes) (
   sight_on (Down i) b t w h = counted_on (counts_after (Down i) s n u) _ w
 
 -- one step
-pub step_empty : (T : Table) (e : walk.Edit) (opening b : Bool) (q n : Bytes) (t : Tree) (c : Cache) (u : Counts) {tlens trees : List ℕ} {raws : Bytes} {g : MeasureStep} → length n ≡ 0 → EndsAs 1 true g →
-    StepIs tlens trees raws (step_as T e opening b q n t c u) g
+pub step_empty : (T : Table) (e : walk.Edit) (opening b : Bool) (q n : Bytes) (t : Tree) (c : Cache) (u : Counts) {tlens trees : List ℕ} {g : MeasureStep} → length n ≡ 0 → EndsAs 1 true g →
+    StepIs tlens trees (step_as T e opening b q n t c u) g
 step_empty T e opening b q [] t c u z k = ends_stop k (λ next. refl)
 step_empty T e opening b q (x ∷ n) t c u z k = absurd (omega (arith, z))
 
@@ -243,21 +245,21 @@ pub nil_length : (n : Bytes) → (length n ≡ 0 → ⊥) → is_nil n ≡ false
 nil_length [] h = absurd (h refl)
 nil_length (x ∷ n) h = refl
 
-module _ (T : Table) (edit : Edit) (opening b : Bool) (q n : Bytes) (c : Cache) (u : Counts) (s : Seen) (r : Turn) (ti : TurnIs edit b s r) (t : Tree) (es : seen_as s ≡ parts_of (entry_of n t))
+module _ (T : Table) (edit : Edit) (opening b : Bool) (q n : Bytes) (c : Cache) (u : Counts) (s : Opt Seen) (r : Turn) (ti : TurnIs edit b s r) (t : Tree) (es : seen_as s ≡ parts_of (entry_of n t))
     (bytes : length n ≡ 0 → ⊥) (v : Counts) (ev : v ≡ counts_after r s n u) where
   at_sight : (next : Next) → step_as T (as_edit edit) opening b q n t c u next ≡ on_sight sha1 T (as_edit edit) opening q (find at q c) next (sight_as r b s n u)
   at_sight next =
       ap (λ (z : Bool). pick_measured z (over 1) (on_sight sha1 T (as_edit edit) opening q (find at q c) next (seen b (as_edit edit) n u (entry_of n t)))) (nil_length n bytes)
       ∙ ap (on_sight sha1 T (as_edit edit) opening q (find at q c) next) (ti.counts n u (entry_of n t) es)
 
-  module _ {tlens trees : List ℕ} {raws : Bytes} {g : MeasureStep} where
-    pub step_past : within u ≡ true → within v ≡ false → EndsAs 5 false g → StepIs tlens trees raws (step_as T (as_edit edit) opening b q n t c u) g
+  module _ {tlens trees : List ℕ} {g : MeasureStep} where
+    pub step_past : within u ≡ true → within v ≡ false → EndsAs 5 false g → StepIs tlens trees (step_as T (as_edit edit) opening b q n t c u) g
     step_past w h e = ends_past e (λ next. ap (λ (z : Measured). z.kept) (at_sight next) ∙ sight_past T (as_edit edit) q (find at q c) n u s opening next r b w (ap within (sym ev) ∙ h))
 
-    pub step_stop : within v ≡ true → goes_on opening (turn_as r b n t) ≡ false → {x : ℕ} → x ≡ ends_with r → EndsAs x true g → StepIs tlens trees raws (step_as T (as_edit edit) opening b q n t c u) g
+    pub step_stop : within v ≡ true → goes_on opening (turn_as r b n t) ≡ false → {x : ℕ} → x ≡ ends_with r → EndsAs x true g → StepIs tlens trees (step_as T (as_edit edit) opening b q n t c u) g
     step_stop w h ex e = ends_stop e (λ next. at_sight next ∙ sight_stop T (as_edit edit) q (find at q c) n u s opening next r b t (ap within (sym ev) ∙ w) h ∙ sym (ap over ex))
 
-    pub step_on : within v ≡ true → goes_on opening (turn_as r b n t) ≡ true → StepIs tlens trees raws (down_as T (as_edit edit) q (wanted_by r) c v) g → StepIs tlens trees raws (step_as T (as_edit edit) opening b q n t c u) g
+    pub step_on : within v ≡ true → goes_on opening (turn_as r b n t) ≡ true → StepIs tlens trees (down_as T (as_edit edit) q (wanted_by r) c v) g → StepIs tlens trees (step_as T (as_edit edit) opening b q n t c u) g
     step_on w h k =
         step_same (λ next.
         at_sight next ∙ sight_on T (as_edit edit) q (find at q c) n u s opening next r b t (ap within (sym ev) ∙ w) h ∙ ap (λ (z : Counts). down_as T (as_edit edit) q (wanted_by r) c z next) (sym ev)) k
@@ -275,13 +277,13 @@ stored {r} {plens} {paths} {tlens} {trees} L =
 pub stored_tree : {used : ℕ} {tlens trees : List ℕ} → Stored used tlens trees → (k : ℕ) → k < 64 → unpack 20 (run_of tlens trees k) ≡ tree_of 20 tlens trees k
 stored_tree {used} {tlens} {trees} S k h = ap (unpack 20) (sym (cut_at tlens trees k (omega (arith, S.all))))
 
-pub stands_as : (tlens trees : List ℕ) (raws : Bytes) (t : Tree) {l m : Level} → l ≡ m → Stands tlens trees raws l t → Stands tlens trees raws m t
-stands_as tlens trees raws t e h = subst (λ (z : Level). Stands tlens trees raws z t) e h
+pub stands_as : (tlens trees : List ℕ) (t : Tree) {l m : Level} → l ≡ m → Stands tlens trees l t → Stands tlens trees m t
+stands_as tlens trees t e h = subst (λ (z : Level). Stands tlens trees z t) e h
 
 -- the loop
-pub record Measuring (T : Table) (e : walk.Edit) (opening : Bool) (c : Cache) (tlens trees : List ℕ) (raws whole : Bytes) (goal : Measured) (p : Bytes) (level : Level) (u : Counts) : Type 0 where
+pub record Measuring (T : Table) (e : walk.Edit) (opening : Bool) (c : Cache) (tlens trees : List ℕ) (whole : Bytes) (goal : Measured) (p : Bytes) (level : Level) (u : Counts) : Type 0 where
   pub tree : Tree
-  pub stands : Stands tlens trees raws level tree
+  pub stands : Stands tlens trees level tree
   pub room : within u ≡ true
   pub so_far : Bytes
   pub front : Front whole so_far p
@@ -291,10 +293,10 @@ pub measure_empty : (T : Table) (e : walk.Edit) (opening : Bool) (q path : Bytes
 measure_empty T e opening q [] c z = record { kept = sym (over_kept 0); code = λ h. sym (over_code 0); past = λ h. no_way h }
 measure_empty T e opening q (b ∷ bs) c z = absurd (omega (arith, z))
 
-pub measure_begin : (T : Table) (e : walk.Edit) (opening : Bool) (r : Record) (plens paths tlens trees : List ℕ) (raws whole path : Bytes) (slot : ℕ) → Laid 20 r plens paths tlens trees →
+pub measure_begin : (T : Table) (e : walk.Edit) (opening : Bool) (r : Record) (plens paths tlens trees : List ℕ) (whole path : Bytes) (slot : ℕ) → Laid 20 r plens paths tlens trees →
     editor.fits (view_of 20 r plens paths tlens trees) ≡ true → Used r slot → whole ≡ full (path_of plens paths slot) path → (length path ≡ 0 → ⊥) → (u : Counts) → u ≡ record_counts r →
-    Measuring T e opening (view_of 20 r plens paths tlens trees) tlens trees raws whole (measure sha1 T e opening (path_of plens paths slot) path (view_of 20 r plens paths tlens trees)) path (Slot slot) u
-measure_begin T e opening r plens paths tlens trees raws whole path slot L f U ew n u eu =
+    Measuring T e opening (view_of 20 r plens paths tlens trees) tlens trees whole (measure sha1 T e opening (path_of plens paths slot) path (view_of 20 r plens paths tlens trees)) path (Slot slot) u
+measure_begin T e opening r plens paths tlens trees whole path slot L f U ew n u eu =
     record {
       tree = tree_of 20 tlens trees slot;
       stands = (U.low, refl);
@@ -314,10 +316,10 @@ stops_here : (T : Table) (e : walk.Edit) (opening b : Bool) (q n : Bytes) (t : T
 stops_here T e opening b q [] t c u v s h = no_way (sym (over_kept 1) ∙ ap (λ (z : Measured). z.kept) (h (λ (x : Tree) (y : Counts). record { code = 0; kept = false })))
 stops_here T e opening b q (x ∷ n) t c u v s h = refl
 
-module _ {T : Table} {e : walk.Edit} {opening : Bool} {c : Cache} {tlens trees : List ℕ} {raws whole : Bytes} {goal : Measured} {p : Bytes} {level : Level} {u : Counts}
-    (s : Measuring T e opening c tlens trees raws whole goal p level u) {k : ℕ} (ek : k ≡ length (first_piece p)) {b : Bool} (eb : b ≡ eqb k (length p))
+module _ {T : Table} {e : walk.Edit} {opening : Bool} {c : Cache} {tlens trees : List ℕ} {whole : Bytes} {goal : Measured} {p : Bytes} {level : Level} {u : Counts}
+    (s : Measuring T e opening c tlens trees whole goal p level u) {k : ℕ} (ek : k ≡ length (first_piece p)) {b : Bool} (eb : b ≡ eqb k (length p))
     {end : ℕ} (ee : end ≡ length whole - length p + k) {below name : Bytes} (ew : below ≡ take end whole) (en : name ≡ take k p) {d : Cache} (ed : d ≡ c)
-    {g : MeasureStep} (gi : StepIs tlens trees raws (step_as T e opening b below name s.tree d u) g) where
+    {g : MeasureStep} (gi : StepIs tlens trees (step_as T e opening b below name s.tree d u) g) where
   abbrev q : Bytes
   q = join s.so_far (take k p)
 
@@ -329,10 +331,10 @@ module _ {T : Table} {e : walk.Edit} {opening : Bool} {c : Cache} {tlens trees :
       s.rest ∙ ap (λ (ns : List Bytes). measured sha1 T e opening ns s.so_far s.tree c u) (pieces_are p k ek b eb)
       ∙ ap (λ (z : Bool). pick_measured (is_nil (take k p)) (over 1) (on_sight sha1 T e opening q (find at q c) rest_of_lem (seen z e (take k p) u (entry_of (take k p) s.tree)))) (rest_nil b p k)
 
-  stepped : StepIs tlens trees raws (step_as T e opening b q (take k p) s.tree c u) g
+  stepped : StepIs tlens trees (step_as T e opening b q (take k p) s.tree c u) g
   stepped =
-      subst (λ (z : Bytes). StepIs tlens trees raws (step_as T e opening b z (take k p) s.tree c u) g) (ew ∙ front_here s.front k end (piece_short p k ek) ee)
-      (subst (λ (z : Bytes). StepIs tlens trees raws (step_as T e opening b below z s.tree c u) g) en (subst (λ (z : Cache). StepIs tlens trees raws (step_as T e opening b below name s.tree z u) g) ed gi))
+      subst (λ (z : Bytes). StepIs tlens trees (step_as T e opening b z (take k p) s.tree c u) g) (ew ∙ front_here s.front k end (piece_short p k ek) ee)
+      (subst (λ (z : Bytes). StepIs tlens trees (step_as T e opening b below z s.tree c u) g) en (subst (λ (z : Cache). StepIs tlens trees (step_as T e opening b below name s.tree z u) g) ed gi))
 
   last_over : b ≡ true → (t : Tree) (v : Counts) → rest_of_lem t v ≡ over 0
   last_over h t v = ap (λ (z : Bool). measured sha1 T e opening (rest_of z p k) q t c v) h
@@ -369,13 +371,13 @@ module _ {T : Table} {e : walk.Edit} {opening : Bool} {c : Cache} {tlens trees :
     pub measure_shorter : k < length p
     measure_shorter = not_last p k ek eb (parts g.kept g.going b h).2
 
-    pub measure_next : {p' : Bytes} → p' ≡ drop (k + 1) p → Measuring T e opening c tlens trees raws whole goal p' g.level (counts_as g.counts)
+    pub measure_next : {p' : Bytes} → p' ≡ drop (k + 1) p → Measuring T e opening c tlens trees whole goal p' g.level (counts_as g.counts)
     measure_next {p'} ep =
         let y = parts g.kept g.going b h in
         let f = stepped.on y.0 y.1 in
         let j = measure_shorter in
         let n = stops_here T e opening b q (take k p) s.tree c u (counts_as g.counts) f.0 f.3 in
-        subst (λ (z : Bytes). Measuring T e opening c tlens trees raws whole goal z g.level (counts_as g.counts)) (sym ep) (record {
+        subst (λ (z : Bytes). Measuring T e opening c tlens trees whole goal z g.level (counts_as g.counts)) (sym ep) (record {
           tree = f.0;
           stands = f.1;
           room = f.2;

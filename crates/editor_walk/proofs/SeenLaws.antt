@@ -24,39 +24,38 @@ use Rattle.model.proofs.SoundTrees.{name_plain, sound_well}
 use Rattle.names.proofs.FollowLaws.{file_tree}
 use Rattle.names_compact.proofs.TwinLaws.{told_right}
 use Rattle.names.specs.Answers.{as_mode, entry_read}
-use Rattle.names_compact.specs.Compact.{unpack, blank, entry_at, spot_of, Tells}
+use Rattle.names_compact.specs.Compact.{unpack, blank, entry_at, spot_of, place_of, found_of as hits, Tells}
 use Rattle.names.specs.Places.{read_entry_at, entry_found, entries_at}
 use Rattle.names_compact.specs.declared.compact.Place.{Place}
 use Rattle.names.specs.declared.mode.EntryKind.{EntryKind}
-use Rattle.names.specs.declared.raw.EntryRead.{EntryRead}
-use Rattle.names.specs.declared.raw.EntryRead.TheVariants.{Entry as EntryAt, Damaged}
+use Rattle.names.specs.declared.raw.RawEntry.{RawEntry}
+use Rattle.std.specs.Prelude.{Option as Opt, Some, None, Result}
 use Rattle.names.proofs.CheckLaws.{found_of}
 use Rattle.names.proofs.EntriesLaws.{Reach, reach, stands, entries_damaged, entries_entry}
 use Rattle.names.proofs.ReadLaws.{read_entries, no_more}
 use Rattle.editor_terms.specs.Edits.{parts_of, seen_as}
 use Rattle.editor_terms.specs.Ids.{id_bytes}
 use Rattle.editor_walk.specs.Seen.{entry_by, SeenIn}
-use Rattle.editor_terms.specs.declared.edit.Seen.TheVariants as S
 use Rattle.editor_terms.specs.declared.id.Id.{Id}
 
-pub seen_parts : (k : EntryKind) (i : Id) (e : Entry) → as_mode k ≡ e.mode → id_bytes i ≡ e.id → seen_as (S.Entry k i) ≡ parts_of (some e)
+pub seen_parts : (k : EntryKind) (i : Id) (e : Entry) → as_mode k ≡ e.mode → id_bytes i ≡ e.id → seen_as (Some (record { kind = k; id = i })) ≡ parts_of (some e)
 seen_parts k i e p q = ap₂ (λ (m : Mode) (l : Bytes). some (m, l)) p q
 
 -- what the search of a tree in order gives
-module _ (w : ℕ) (b k : Bytes) {r : Place} (s : Tells w b (searched key k (unpack w b)) r) (up : rising key (unpack w b) ≡ true) where
-  right : (t : Bool) → r.found ≡ t → Right key k (unpack w b) (spot_of t r.index)
+module _ (w : ℕ) (b k : Bytes) {r : Result Place Place} (s : Tells w b (searched key k (unpack w b)) r) (up : rising key (unpack w b) ≡ true) where
+  right : (t : Bool) → hits r ≡ t → Right key k (unpack w b) (spot_of t (place_of r).index)
   right t e = told_right w b k r s up t e
 
-  pub search_miss : r.found ≡ false → find key k (unpack w b) ≡ none
+  pub search_miss : hits r ≡ false → find key k (unpack w b) ≡ none
   search_miss e = (right false e).0
 
-  pub search_hit : r.found ≡ true → (r.index < length (unpack w b)) × (find key k (unpack w b) ≡ some (entry_at w b r.index))
+  pub search_hit : hits r ≡ true → ((place_of r).index < length (unpack w b)) × (find key k (unpack w b) ≡ some (entry_at w b (place_of r).index))
   search_hit e =
       let x = right true e in
-      let l : length (unpack w b) - r.index ≡ suc (length x.1) = sym (length-drop r.index (unpack w b)) ∙ ap length x.2 in
-      let h : r.index < length (unpack w b) = omega (arith, l) in
-      let q : entry_at w b r.index ∷ drop (suc r.index) (unpack w b) ≡ x.0 ∷ x.1 = sym (drop-cons (unpack w b) r.index blank h) ∙ x.2 in
-      let z : x.0 ≡ entry_at w b r.index = cc (q) in
+      let l : length (unpack w b) - (place_of r).index ≡ suc (length x.1) = sym (length-drop (place_of r).index (unpack w b)) ∙ ap length x.2 in
+      let h : (place_of r).index < length (unpack w b) = omega (arith, l) in
+      let q : entry_at w b (place_of r).index ∷ drop (suc (place_of r).index) (unpack w b) ≡ x.0 ∷ x.1 = sym (drop-cons (unpack w b) (place_of r).index blank h) ∙ x.2 in
+      let z : x.0 ≡ entry_at w b (place_of r).index = cc (q) in
       (h, x.3 ∙ ap some z)
 
 -- the entry of a name, by the two searches
@@ -112,7 +111,7 @@ scan_begin raw name =
     }
 
 module _ {raw name : Bytes} {at : ℕ} (s : Scanning raw name at) where
-  pub scan_end : length raw ≤ at → SeenIn raw name S.Nothing
+  pub scan_end : length raw ≤ at → SeenIn raw name None
   scan_end h =
       record {
         is = λ t e.
@@ -120,8 +119,8 @@ module _ {raw name : Bytes} {at : ℕ} (s : Scanning raw name at) where
             sym (ap parts_of (k.same ∙ ap (entry_of name) (no_more raw 20 at k.left k.rest h)));
       }
 
-  module _ (h : at < length raw) {r : EntryRead} (er : entry_read r ≡ read_entry_at raw at 20) where
-    pub scan_damaged : r ≡ Damaged → SeenIn raw name S.Nothing
+  module _ (h : at < length raw) {r : Opt RawEntry} (er : entry_read r ≡ read_entry_at raw at 20) where
+    pub scan_damaged : r ≡ None → SeenIn raw name None
     scan_damaged d =
         record {
           is = λ t e.
@@ -129,34 +128,34 @@ module _ {raw name : Bytes} {at : ℕ} (s : Scanning raw name at) where
               none_some k.left (sym (entries_damaged raw 20 at h (sym er ∙ ap entry_read d)) ∙ k.rest);
         }
 
-    module _ {kind : EntryKind} {name_at n id next : ℕ} (en : r ≡ EntryAt kind name_at n id next) where
+    module _ {f : RawEntry} (en : r ≡ Some f) where
       abbrev x : Entry
-      x = entry_found raw 20 (found_of kind name_at n id next)
+      x = entry_found raw 20 (found_of f)
 
-      pub scan_reach : Reach raw 20 at (found_of kind name_at n id next)
+      pub scan_reach : Reach raw 20 at (found_of f)
       scan_reach = reach raw 20 (sym er ∙ ap entry_read en)
 
-      pub id_inside : id + 20 ≤ length raw
+      pub id_inside : f.id_at + 20 ≤ length raw
       id_inside =
           let z = stands raw 20 (sym er ∙ ap entry_read en) in
           omega (arith, z.id, z.next, z.inside)
 
-      others : (left : Tree) → entries_at raw 20 at ≡ some left → (xs : Tree) × (entries_at raw 20 next ≡ some xs) × (x ∷ xs ≡ left)
-      others left e = more_inv x (entries_at raw 20 next) left (sym (entries_entry raw 20 at h (sym er ∙ ap entry_read en)) ∙ e)
+      others : (left : Tree) → entries_at raw 20 at ≡ some left → (xs : Tree) × (entries_at raw 20 f.next ≡ some xs) × (x ∷ xs ≡ left)
+      others left e = more_inv x (entries_at raw 20 f.next) left (sym (entries_entry raw 20 at h (sym er ∙ ap entry_read en)) ∙ e)
 
-      module _ {l : Bytes} {b : Bool} (el : l ≡ take n (drop name_at raw)) (eb : b ≡ same l name) where
-        pub scan_here : b ≡ true → {i : Id} → id_bytes i ≡ take 20 (drop id raw) → SeenIn raw name (S.Entry kind i)
-        scan_here f {i} ei =
+      module _ {l : Bytes} {b : Bool} (el : l ≡ take f.name_len (drop f.name_at raw)) (eb : b ≡ same l name) where
+        pub scan_here : b ≡ true → {i : Id} → id_bytes i ≡ take 20 (drop f.id_at raw) → SeenIn raw name (Some (record { kind = f.kind; id = i }))
+        scan_here h' {i} ei =
             record {
               is = λ t e.
                   let k = s.is t e in
                   let o = others k.left k.rest in
-                  let q : x.name ≡ name = sym el ∙ same_eq l name (sym eb ∙ f) in
-                  seen_parts kind i x refl ei ∙ ap parts_of (sym (entry_here x o.0 name q) ∙ ap (entry_of name) o.2 ∙ sym k.same);
+                  let q : x.name ≡ name = sym el ∙ same_eq l name (sym eb ∙ h') in
+                  seen_parts f.kind i x refl ei ∙ ap parts_of (sym (entry_here x o.0 name q) ∙ ap (entry_of name) o.2 ∙ sym k.same);
             }
 
-        pub scan_more : has 47 name ≡ false → b ≡ false → Scanning raw name next
-        scan_more p f =
+        pub scan_more : has 47 name ≡ false → b ≡ false → Scanning raw name f.next
+        scan_more p h' =
             record {
               is = λ t e.
                   let k = s.is t e in
@@ -170,9 +169,9 @@ module _ {raw name : Bytes} {at : ℕ} (s : Scanning raw name at) where
                     rest = o.1;
                     good = and_right (good_name x.name && eqb (length x.id) 20) (good_entries 20 xs) g;
                     order = rising_tail key x xs u;
-                    same = k.same ∙ ap (entry_of name) (sym o.2) ∙ entry_past x xs name p (name_plain x.name gn) (differs el eb f) u;
+                    same = k.same ∙ ap (entry_of name) (sym o.2) ∙ entry_past x xs name p (name_plain x.name gn) (differs el eb h') u;
                   };
             }
           where
-            differs : l ≡ take n (drop name_at raw) → b ≡ same l name → b ≡ false → x.name ≢ name
-            differs el eb f q = let z : ◌≡◌ {A = ℕ} 0 1 = cc (same_refl name, el ∙ q) in omega arith
+            differs : l ≡ take f.name_len (drop f.name_at raw) → b ≡ same l name → b ≡ false → x.name ≢ name
+            differs el eb h' q = let z : ◌≡◌ {A = ℕ} 0 1 = cc (same_refl name, el ∙ q) in omega arith

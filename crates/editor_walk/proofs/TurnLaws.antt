@@ -4,6 +4,7 @@ use mathlib.Core.Path.{◌≡◌, refl, sym, ap, ap₂, ◌∙◌}
 use mathlib.Core.List.{List, [], ◌∷◌}
 use mathlib.Core.Bool.{Bool, true, false}
 use mathlib.Core.Option.{Option, none, some}
+use Rattle.std.specs.Prelude.{Option as Opt}
 use native.Mathlib.Omega.{arith}
 use lib.ListN.{length}
 use Rattle.model.specs.Bytes.{Bytes}
@@ -94,7 +95,7 @@ step_empty T e opening b p q (x ∷ n) r plens paths tlens trees L cl z = absurd
 
 -- a component of some bytes, in the tree of a slot
 module _ (T : Table) (edit : Edit) (opening b : Bool) (q n : Bytes) (r : Record) (plens paths tlens trees : List ℕ) (L : Laid 20 r plens paths tlens trees) (cl : r.hidden ≡ r.free) (k : ℕ) (U : Used r k)
-    (s : Seen) (x : Turn) (ti : TurnIs edit b s x) (es : looks edit b ≡ true → seen_as s ≡ parts_of (entry_of n (tree_of 20 tlens trees k))) (bytes : length n ≡ 0 → ⊥) where
+    (s : Opt Seen) (x : Turn) (ti : TurnIs edit b s x) (es : looks edit b ≡ true → seen_as s ≡ parts_of (entry_of n (tree_of 20 tlens trees k))) (bytes : length n ≡ 0 → ⊥) where
   abbrev p : Bytes
   p = path_of plens paths k
 

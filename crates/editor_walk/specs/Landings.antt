@@ -1,5 +1,5 @@
 -- What going down finds: the plan of it, which the measure and the walk of the model share, and what the code's answer says of it. Assumes nothing.
-use Rattle.std.specs.Prelude.{ℕ, ◌-◌, ◌≤◌, ◌≡◌, Bool, true, false, List, [], length, take, drop}
+use Rattle.std.specs.Prelude.{ℕ, ◌≡◌, Bool, true, false, List, [], length, Option as Opt, Some, None}
 use Rattle.std.proofs.Math.Option.{Option, none, some}
 use Rattle.model.specs.Bytes.{Bytes, same}
 use Rattle.model.specs.Map.{put}
@@ -10,8 +10,6 @@ use Rattle.model.specs.Editor.{Format, at, Cache, ◌↝◌}
 use Rattle.model.specs.Walk.{Entered, halt, into}
 use Rattle.model.specs.Measure.{Counts, plus_tree, lands, halts}
 use Rattle.model.specs.Measure as measure
-use Rattle.store_runs.specs.declared.runs.Found.{Found}
-use Rattle.store_runs.specs.declared.runs.Found.TheVariants.{At, Nothing}
 use Rattle.store_slots.specs.View.{SlotIs}
 use Rattle.editor_terms.specs.Answers.{code_number}
 use Rattle.editor_walk.specs.declared.land.Raw.{Raw}
@@ -49,28 +47,26 @@ abbrev pub entered_by : Bytes → Cache → Plan → Entered
 entered_by q c (caches t) = into (put at (q ↝ t) c)
 entered_by q c (stops n) = halt n
 
--- the raw tree at a place of the table is t, and has so many entries and name bytes
-pub record RawIs (raws : Bytes) (r : Raw) (t : Tree) : Type 0 where
-  pub order : r.from ≤ r.to
-  pub inside : r.to ≤ length raws
-  pub reads : read_tree 20 (take (r.to - r.from) (drop r.from raws)) ≡ some t
-  pub entries : r.entries ≡ length t
-  pub names : r.names ≡ name_bytes t
+-- the raw tree is t, and has so many entries and name bytes
+pub record RawIs (r : Raw) (t : Tree) : Type 0 where
+  pub reads : read_tree 20 r.bytes.now ≡ some t
+  pub entries : r.size.entries ≡ length t
+  pub names : r.size.name_bytes ≡ name_bytes t
 
 -- the answer is the plan
-abbrev pub PlanIs : Bytes → Plan → Landing → Type 0
-PlanIs raws plan (There slot) = ⊥
-PlanIs raws plan Fresh = plan ≡ caches []
-PlanIs raws plan (Load r) = (t : Tree) × RawIs raws r t × (plan ≡ caches t)
-PlanIs raws plan (Halt code) = plan ≡ stops (code_number code)
+abbrev pub PlanIs : Plan → Landing → Type 0
+PlanIs plan (There slot) = ⊥
+PlanIs plan Fresh = plan ≡ caches []
+PlanIs plan (Load r) = (t : Tree) × RawIs r t × (plan ≡ caches t)
+PlanIs plan (Halt code) = plan ≡ stops (code_number code)
 
 -- the slot of the path q, whatever the trees are
-abbrev pub SlotFound : List ℕ → List Bytes → Bytes → Found → Type 0
+abbrev pub SlotFound : List ℕ → List Bytes → Bytes → Opt ℕ → Type 0
 SlotFound ds ps q f = (w : ℕ) (bs : List Bytes) → length bs ≡ 64 → SlotIs w ds ps bs q f
 
 -- the tree at q is cached in the slot given; or none is cached there, and the answer is the plan
-abbrev pub LandsAs : Bytes → Plan → List ℕ → List Bytes → Bytes → Landing → Type 0
-LandsAs raws plan ds ps q (There slot) = SlotFound ds ps q (At slot)
-LandsAs raws plan ds ps q Fresh = SlotFound ds ps q Nothing × PlanIs raws plan Fresh
-LandsAs raws plan ds ps q (Load r) = SlotFound ds ps q Nothing × PlanIs raws plan (Load r)
-LandsAs raws plan ds ps q (Halt code) = SlotFound ds ps q Nothing × PlanIs raws plan (Halt code)
+abbrev pub LandsAs : Plan → List ℕ → List Bytes → Bytes → Landing → Type 0
+LandsAs plan ds ps q (There slot) = SlotFound ds ps q (Some slot)
+LandsAs plan ds ps q Fresh = SlotFound ds ps q None × PlanIs plan Fresh
+LandsAs plan ds ps q (Load r) = SlotFound ds ps q None × PlanIs plan (Load r)
+LandsAs plan ds ps q (Halt code) = SlotFound ds ps q None × PlanIs plan (Halt code)

@@ -1,5 +1,5 @@
 -- The tree that the first pass is at, and what a step of it says of the model's measure. Assumes nothing.
-use Rattle.std.specs.Prelude.{ℕ, ◌-◌, ◌≤◌, ◌<◌, ◌≡◌, Bool, true, false, List, [], length, take, drop}
+use Rattle.std.specs.Prelude.{ℕ, ◌<◌, ◌≡◌, Bool, true, false, List, [], length, Option as Opt}
 use Rattle.std.proofs.Math.Option.{Option, some}
 use Rattle.model.specs.Bytes.{Bytes, is_nil}
 use Rattle.model.specs.Map.{find, rising}
@@ -11,6 +11,7 @@ use Rattle.model.specs.Formats.{sha1}
 use Rattle.model.specs.Walk.{Edit}
 use Rattle.model.specs.Measure.{Counts, within, plus_tree, seen, there, lands, halts, landing, Measured, over, counted, pick_measured, on_landing, on_sight}
 use Rattle.model.specs.Measure as measure
+use Rattle.names.specs.declared.tree.Size.{Size}
 use Rattle.names_compact.specs.Compact.{Run}
 use Rattle.store_runs.specs.Runs.{run_of, Sound}
 use Rattle.store_slots.specs.View.{tree_of}
@@ -34,21 +35,21 @@ pub record Stored (used : ℕ) (tlens trees : List ℕ) : Type 0 where
   pub order : (k : ℕ) → k < 64 → rising key (tree_of 20 tlens trees k) ≡ true
 
 -- the tree t is the one at this level: in a slot, raw in the table, or empty
-abbrev pub Stands : List ℕ → List ℕ → Bytes → Level → Tree → Type 0
-Stands tlens trees raws (Slot slot) t = (slot < 64) × (t ≡ tree_of 20 tlens trees slot)
-Stands tlens trees raws (Raw from to) t = (from ≤ to) × (to ≤ length raws) × (read_tree 20 (take (to - from) (drop from raws)) ≡ some t)
-Stands tlens trees raws Empty t = t ≡ []
+abbrev pub Stands : List ℕ → List ℕ → Level → Tree → Type 0
+Stands tlens trees (Slot slot) t = (slot < 64) × (t ≡ tree_of 20 tlens trees slot)
+Stands tlens trees (Raw raw) t = read_tree 20 raw.now ≡ some t
+Stands tlens trees Empty t = t ≡ []
 
 -- r is the entry of the name in the tree at this level
-pub record SeenAt (tlens trees : List ℕ) (raws : Bytes) (level : Level) (name : Bytes) (r : Seen) : Type 0 where
-  pub is : (t : Tree) → Stands tlens trees raws level t → seen_as r ≡ parts_of (entry_of name t)
+pub record SeenAt (tlens trees : List ℕ) (level : Level) (name : Bytes) (r : Opt Seen) : Type 0 where
+  pub is : (t : Tree) → Stands tlens trees level t → seen_as r ≡ parts_of (entry_of name t)
 
 -- g says of a step how the measure goes on: whatever comes after it, a limit is passed, and the number is 5; or the walk stops with the number and all is
 -- kept; or what comes after it decides, from the tree at its level and its counts, which are within the limits
-pub record StepIs (tlens trees : List ℕ) (raws : Bytes) (m : (Tree → Counts → Measured) → Measured) (g : MeasureStep) : Type 0 where
+pub record StepIs (tlens trees : List ℕ) (m : (Tree → Counts → Measured) → Measured) (g : MeasureStep) : Type 0 where
   pub past : g.kept ≡ false → (code_number g.code ≡ 5) × ((next : Tree → Counts → Measured) → (m next).kept ≡ false)
   pub stop : g.kept ≡ true → g.going ≡ false → (next : Tree → Counts → Measured) → m next ≡ over (code_number g.code)
-  pub on : g.kept ≡ true → g.going ≡ true → (t : Tree) × Stands tlens trees raws g.level t × (within (counts_as g.counts) ≡ true)
+  pub on : g.kept ≡ true → g.going ≡ true → (t : Tree) × Stands tlens trees g.level t × (within (counts_as g.counts) ≡ true)
       × ((next : Tree → Counts → Measured) → m next ≡ next t (counts_as g.counts))
   pub done : g.kept ≡ true → g.going ≡ true → code_number g.code ≡ 0
 
@@ -65,19 +66,19 @@ pub record EndsAs (k : ℕ) (b : Bool) (g : MeasureStep) : Type 0 where
   pub going : g.going ≡ false
 
 -- a tree of so many entries and name bytes is to be cached, at a path of n bytes, from the counts u
-pub record CachesAs (level : Level) (entries names n : ℕ) (u : Counts) (g : MeasureStep) : Type 0 where
-  pub is : (tlens trees : List ℕ) (raws q : Bytes) (t : Tree) → n ≡ length q → entries ≡ length t → names ≡ name_bytes t → Stands tlens trees raws level t →
-      StepIs tlens trees raws (λ next. counted (plus_tree q t u) (next t (plus_tree q t u))) g
+pub record CachesAs (level : Level) (size : Size) (n : ℕ) (u : Counts) (g : MeasureStep) : Type 0 where
+  pub is : (tlens trees : List ℕ) (q : Bytes) (t : Tree) → n ≡ length q → size.entries ≡ length t → size.name_bytes ≡ name_bytes t → Stands tlens trees level t →
+      StepIs tlens trees (λ next. counted (plus_tree q t u) (next t (plus_tree q t u))) g
 
 -- what the code's answer says of the model's landing
-abbrev pub LandIs : List ℕ → List ℕ → Bytes → Bytes → Counts → Landing → measure.Landing → Type 0
-LandIs tlens trees raws q u (There slot) l = (slot < 64) × (l ≡ there (tree_of 20 tlens trees slot))
-LandIs tlens trees raws q u Fresh l = l ≡ lands [] (plus_tree q [] u)
-LandIs tlens trees raws q u (Load r) l = (t : Tree) × RawIs raws r t × (l ≡ lands t (plus_tree q t u))
-LandIs tlens trees raws q u (Halt code) l = l ≡ halts (code_number code)
+abbrev pub LandIs : List ℕ → List ℕ → Bytes → Counts → Landing → measure.Landing → Type 0
+LandIs tlens trees q u (There slot) l = (slot < 64) × (l ≡ there (tree_of 20 tlens trees slot))
+LandIs tlens trees q u Fresh l = l ≡ lands [] (plus_tree q [] u)
+LandIs tlens trees q u (Load r) l = (t : Tree) × RawIs r t × (l ≡ lands t (plus_tree q t u))
+LandIs tlens trees q u (Halt code) l = l ≡ halts (code_number code)
 
 pub record LandedAs (x : Landing) (n : ℕ) (u : Counts) (g : MeasureStep) : Type 0 where
-  pub is : (tlens trees : List ℕ) (raws q : Bytes) (l : measure.Landing) → n ≡ length q → LandIs tlens trees raws q u x l → StepIs tlens trees raws (λ next. on_landing next u l) g
+  pub is : (tlens trees : List ℕ) (q : Bytes) (l : measure.Landing) → n ≡ length q → LandIs tlens trees q u x l → StepIs tlens trees (λ next. on_landing next u l) g
 
 -- the model's step down to q, and its whole step at the name n in the tree t, from what measures the rest; c is the cache
 abbrev pub down_as : Table → Edit → Bytes → Option Bytes → Cache → Counts → (Tree → Counts → Measured) → Measured

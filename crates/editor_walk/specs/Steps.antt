@@ -36,23 +36,23 @@ PutFits (Put kind id) p n t c = fits (put at (p ↝ changed (Put kind id) n t) c
 PutFits (Down id) p n t c = Unit {0}
 
 -- what was found at q can be gone to: it is there, or there is room for it
-abbrev pub LandFits : Record → List ℕ → List ℕ → Cache → Bytes → Bytes → Landing → Type 0
-LandFits r plens paths c raws q (There slot) = Used r slot × (path_of plens paths slot ≡ q)
-LandFits r plens paths c raws q Fresh = (find at q c ≡ none) × (fits (put at (q ↝ []) c) ≡ true)
-LandFits r plens paths c raws q (Load x) = (find at q c ≡ none) × ((t : Tree) × RawIs raws x t × (fits (put at (q ↝ t) c) ≡ true))
-LandFits r plens paths c raws q (Halt code) = Unit {0}
+abbrev pub LandFits : Record → List ℕ → List ℕ → Cache → Bytes → Landing → Type 0
+LandFits r plens paths c q (There slot) = Used r slot × (path_of plens paths slot ≡ q)
+LandFits r plens paths c q Fresh = (find at q c ≡ none) × (fits (put at (q ↝ []) c) ≡ true)
+LandFits r plens paths c q (Load x) = (find at q c ≡ none) × ((t : Tree) × RawIs x t × (fits (put at (q ↝ t) c) ≡ true))
+LandFits r plens paths c q (Halt code) = Unit {0}
 
 -- whether the walk goes on, with which number it ends, and the cache d after c
-abbrev pub LandLeaves : Bytes → Bytes → Cache → Cache → Landing → Bool → ℕ → Type 0
-LandLeaves raws q c d (There slot) going code = (going ≡ true) × (d ≡ c)
-LandLeaves raws q c d Fresh going code = (going ≡ true) × (d ≡ put at (q ↝ []) c)
-LandLeaves raws q c d (Load x) going code = (going ≡ true) × ((t : Tree) → RawIs raws x t → d ≡ put at (q ↝ t) c)
-LandLeaves raws q c d (Halt k) going code = (going ≡ false) × (code ≡ code_number k) × (d ≡ c)
+abbrev pub LandLeaves : Bytes → Cache → Cache → Landing → Bool → ℕ → Type 0
+LandLeaves q c d (There slot) going code = (going ≡ true) × (d ≡ c)
+LandLeaves q c d Fresh going code = (going ≡ true) × (d ≡ put at (q ↝ []) c)
+LandLeaves q c d (Load x) going code = (going ≡ true) × ((t : Tree) → RawIs x t → d ≡ put at (q ↝ t) c)
+LandLeaves q c d (Halt k) going code = (going ≡ false) × (code ≡ code_number k) × (d ≡ c)
 
 -- the walk went down to what was found at q
-pub record Descended (r₀ : Record) (raws q : Bytes) (c : Cache) (x : Landing) (s : Step) (plens paths tlens trees : List ℕ) : Type 0 where
+pub record Descended (r₀ : Record) (q : Bytes) (c : Cache) (x : Landing) (s : Step) (plens paths tlens trees : List ℕ) : Type 0 where
   pub stand : Standing r₀ s.ed plens paths tlens trees
-  pub leaves : LandLeaves raws q c (view_of 20 s.ed plens paths tlens trees) x s.going (code_number s.code)
+  pub leaves : LandLeaves q c (view_of 20 s.ed plens paths tlens trees) x s.going (code_number s.code)
   pub done : s.going ≡ true → code_number s.code ≡ 0
   pub slot : s.going ≡ true → Used s.ed s.slot × (path_of plens paths s.slot ≡ q)
 

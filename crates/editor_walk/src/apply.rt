@@ -18,6 +18,8 @@ ghost use Rattle.editor_walk.specs.Steps.{PutFits, LandFits, Descended, down_as,
 use crate::land::Landing;
 use editor_terms::code::Code;
 use editor_terms::edit::{Edit, Seen, Turn};
+use names::limits::WIDTH;
+use names::write::Entry;
 use store_slots::Record;
 
 // What a step comes to: its number, the record, and whether and in which slot the walk goes on.
@@ -37,47 +39,35 @@ pub struct Answer {
 }
 
 // What a turn at a name changes in the tree in a slot.
-fn apply(
-    ed: Record,
-    plens: &[u64],
-    paths: &[u8],
-    tlens: &mut [u64],
-    trees: &mut [u8],
-    name: &[u8],
-    slot: usize,
-    turn: Turn,
-) -> Record
-    requires { Laid 20 ed plens.now paths.now tlens.old trees.old × Used ed slot × (good_name name.now ≡ true)
-        × PutFits turn (path_of plens.now paths.now slot) name.now (tree_of 20 tlens.old trees.old slot) (view_of 20 ed plens.now paths.now tlens.old trees.old) }
-    ensures { Edited 20 ed plens.now paths.now tlens.old trees.old slot
-        (changed turn name.now (tree_of 20 tlens.old trees.old slot)) result tlens.new trees.new }
+fn apply(s: &mut Store<'_>, name: &[u8], slot: usize, turn: Turn)
+    requires { LaidIn 20 s.old × Used s.old.ed slot × (good_name name.now ≡ true)
+        × PutFits turn (path_in_slot s.old slot) name.now (tree_in_slot 20 s.old slot) (view_in 20 s.old) }
+    ensures done { Edited 20 s.old.ed s.old.plens.now s.old.paths.now s.old.tlens.now s.old.trees.now slot
+        (changed turn name.now (tree_in_slot 20 s.old slot)) s.new.ed s.new.tlens.now s.new.trees.now }
+    ensures lent { SameLent s.old s.new }
+    ensures keys { SameKeys s.old s.new }
 {
     match turn {
-        Turn::Stop(_) => ed,
-        Turn::Cut => store_entries::remove(ed, plens, paths, tlens, trees, 20, slot, name),
+        Turn::Cut => store_entries::remove(ed, plens, paths, tlens, trees, WIDTH, slot, name),
         Turn::Put(kind, id) => {
-            let b = editor_terms::id::bytes(id);
-            store_entries::set(ed, plens, paths, tlens, trees, 20, slot, kind, &b, name)
+            let entry = Entry {
+                kind,
+                name,
+                id: &id.bytes,
+            };
+            store_entries::set(ed, plens, paths, tlens, trees, WIDTH, slot, entry)
         }
-        Turn::Down(_) => ed,
+        Turn::Stop(_) | Turn::Down(_) => ed,
     }
 }
 
 // Goes down to the path below: what is to be cached there is cached.
-fn descend(
-    ed: Record,
-    plens: &mut [u64],
-    paths: &mut [u8],
-    tlens: &mut [u64],
-    trees: &mut [u8],
-    raws: &[u8],
-    below: &[u8],
-    landing: Landing,
-) -> Walked
-    requires { Laid 20 ed plens.old paths.old tlens.old trees.old × (ed.hidden ≡ ed.free)
-        × LandFits ed plens.old paths.old (view_of 20 ed plens.old paths.old tlens.old trees.old) raws.now below.now landing }
-    ensures { Descended ed raws.now below.now (view_of 20 ed plens.old paths.old tlens.old trees.old) landing result
-        plens.new paths.new tlens.new trees.new }
+fn descend(s: &mut Store<'_>, below: &[u8], landing: Landing<'_>) -> Result<Option<usize>, Refusal>
+    requires { LaidIn 20 s.old × (s.old.ed.hidden ≡ s.old.ed.free)
+        × LandFits s.old.ed s.old.plens.now s.old.paths.now (view_in 20 s.old) below.now landing }
+    ensures done { Descended s.old.ed below.now (view_in 20 s.old) landing.entry result
+        s.new.plens.now s.new.paths.now s.new.tlens.now s.new.trees.now }
+    ensures lent { SameLent s.old s.new }
 {
     match landing {
         Landing::There(slot) => Walked {
@@ -93,107 +83,70 @@ fn descend(
             ed,
         },
         Landing::Fresh => {
-            let t = store_slots::add_empty(ed, plens, paths, tlens, trees, 20, below);
-            let e = t.editor;
-            let k = t.slot;
+            let t = store_slots::add_empty(ed, plens, paths, tlens, trees, WIDTH, below);
             Walked {
                 going: true,
                 code: Code::Done,
-                slot: k,
-                ed: e,
+                slot: t.slot,
+                ed: t.editor,
             }
         }
         Landing::Load(raw) => {
-            let from = raw.from;
-            let n = raw.to - from;
-            let bytes = names::part::between(raws, from, n);
             let t = store_trees::load::load(
                 ed,
                 plens,
                 paths,
                 tlens,
                 trees,
-                20,
+                WIDTH,
                 below,
-                bytes,
-                raw.entries,
-                raw.names,
+                raw.bytes,
+                raw.size.entries,
+                raw.size.name_bytes,
             );
-            let e = t.editor;
-            let k = t.slot;
             Walked {
                 going: true,
                 code: Code::Done,
-                slot: k,
-                ed: e,
+                slot: t.slot,
+                ed: t.editor,
             }
         }
     }
 }
 
 // The step down after a turn.
-fn go_down(
-    ed: Record,
-    plens: &mut [u64],
-    paths: &mut [u8],
-    tlens: &mut [u64],
-    trees: &mut [u8],
-    ids: &[u8],
-    ends: &[u32],
-    raws: &[u8],
-    below: &[u8],
-    turn: Turn,
-    edit: Edit,
-) -> Walked
-    requires { Laid 20 ed plens.old paths.old tlens.old trees.old × (ed.hidden ≡ ed.free) × (good_table 20 (table_of ids.now ends.now raws.now) ≡ true)
-        × Fitting (down_as (table_of ids.now ends.now raws.now) (as_edit edit) below.now (wanted_by turn) (view_of 20 ed plens.old paths.old tlens.old trees.old)) }
-    ensures { SteppedAs ed (down_as (table_of ids.now ends.now raws.now) (as_edit edit) below.now (wanted_by turn)
-        (view_of 20 ed plens.old paths.old tlens.old trees.old)) below.now result plens.new paths.new tlens.new trees.new }
+fn go_down(s: &mut Store<'_>, table: Objects<'_>, below: &[u8], turn: Turn, edit: Edit) -> Result<Option<usize>, Refusal>
+    requires { LaidIn 20 s.old × (s.old.ed.hidden ≡ s.old.ed.free) × (good_table 20 (objects_in table) ≡ true)
+        × Fitting (down_as (objects_in table) (as_edit edit) below.now (wanted_by turn) (view_in 20 s.old)) }
+    ensures done { SteppedAs s.old.ed (down_as (objects_in table.entry) (as_edit edit) below.now (wanted_by turn)
+        (view_in 20 s.old)) below.now result s.new.plens.now s.new.paths.now s.new.tlens.now s.new.trees.now }
+    ensures lent { SameLent s.old s.new }
 {
-    let wanted = editor_terms::edit::wanted_by(turn);
-    let leaf = editor_terms::edit::is_leaf_removal(edit);
+    let wanted = turn.wanted();
+    let leaf = edit.is_leaf_removal();
     let landing = crate::land::land(ed, plens, paths, ids, ends, raws, below, wanted, leaf);
-    descend(ed, plens, paths, tlens, trees, raws, below, landing)
+    descend(ed, plens, paths, tlens, trees, below, landing)
 }
 
 // The entry of a name in the tree at hand, where the edit's turn depends on it: an upsert's last does not.
-fn seen_for(tree: &[u8], name: &[u8], edit: Edit, last: bool) -> Seen
+fn seen_for(tree: &[u8], name: &[u8], edit: Edit, last: bool) -> Option<Seen>
     requires { Run 20 tree.now × (rising key (unpack 20 tree.now) ≡ true) }
     ensures { looks edit «last» ≡ true → seen_as result ≡ parts_of (entry_of name.now (unpack 20 tree.now)) }
 {
     match edit {
-        Edit::Remove(_) => crate::seen::seen_in(tree, name, false),
-        Edit::Upsert(_, _) => {
-            if last {
-                return Seen::Nothing;
-            }
-            crate::seen::seen_in(tree, name, false)
-        }
+        Edit::Upsert(_, _) if last => None,
+        _ => crate::seen::seen_in(tree, name, false),
     }
 }
 
 // One step: the edit at the component `name` of the tree in a slot, with the path `below` of the tree below it.
-fn step(
-    ed: Record,
-    plens: &mut [u64],
-    paths: &mut [u8],
-    tlens: &mut [u64],
-    trees: &mut [u8],
-    ids: &[u8],
-    ends: &[u32],
-    raws: &[u8],
-    below: &[u8],
-    name: &[u8],
-    edit: Edit,
-    last: bool,
-    opening: bool,
-    slot: usize,
-) -> Walked
-    requires { Laid 20 ed plens.old paths.old tlens.old trees.old × (ed.hidden ≡ ed.free) × Used ed slot × (good_table 20 (table_of ids.now ends.now raws.now) ≡ true)
+fn step(s: &mut Store<'_>, table: Objects<'_>, below: &[u8], name: &[u8], edit: Edit, last: bool, opening: bool, slot: usize) -> Result<Option<usize>, Refusal>
+    requires { LaidIn 20 s.old × (s.old.ed.hidden ≡ s.old.ed.free) × Used s.old.ed slot × (good_table 20 (objects_in table) ≡ true)
         × ((length name.now ≡ 0 → ⊥) → good_name name.now ≡ true)
-        × Fitting (step_as (table_of ids.now ends.now raws.now) (as_edit edit) opening «last» (path_of plens.old paths.old slot) below.now name.now (view_of 20 ed plens.old paths.old tlens.old trees.old)) }
-    ensures { SteppedAs ed (step_as (table_of ids.now ends.now raws.now) (as_edit edit) opening «last» (path_of plens.old paths.old slot) below.now name.now
-        (view_of 20 ed plens.old paths.old tlens.old trees.old)) below.now result plens.new paths.new tlens.new trees.new }
+        × Fitting (step_as (objects_in table) (as_edit edit) opening «last» (path_in_slot s.old slot) below.now name.now (view_in 20 s.old)) }
+    ensures done { SteppedAs s.old.ed (step_as (objects_in table.entry) (as_edit edit) opening «last» (path_in_slot s.old slot) below.now name.now
+        (view_in 20 s.old)) below.now result s.new.plens.now s.new.paths.now s.new.tlens.now s.new.trees.now }
+    ensures lent { SameLent s.old s.new }
 {
     if name.len() == 0 {
         return Walked {
@@ -209,13 +162,12 @@ fn step(
         edit,
         last,
     );
-    let turn = editor_terms::edit::turn_of(edit, last, seen);
+    let turn = edit.turn(last, seen);
     let e = apply(ed, plens, paths, tlens, trees, name, slot, turn);
-    if !editor_terms::edit::goes_down(turn, last, opening) {
-        let code = editor_terms::edit::end_code(turn);
+    if !turn.goes_down(last, opening) {
         return Walked {
             going: false,
-            code,
+            code: turn.end_code(),
             slot: 0,
             ed: e,
         };
@@ -229,30 +181,17 @@ fn step(
 fn is_over(going: bool, last: bool) -> bool
     ensures { result ≡ (not going || last) }
 {
-    if going { last } else { true }
+    !going || last
 }
 
 // The walk of an edit whose steps each fit, from the tree in a slot; `full` is that tree's path with the path.
-pub fn walk(
-    ed: Record,
-    plens: &mut [u64],
-    paths: &mut [u8],
-    tlens: &mut [u64],
-    trees: &mut [u8],
-    ids: &[u8],
-    ends: &[u32],
-    raws: &[u8],
-    full: &[u8],
-    path: &[u8],
-    edit: Edit,
-    opening: bool,
-    slot: usize,
-) -> Answer
-    requires { Laid 20 ed plens.old paths.old tlens.old trees.old × (ed.hidden ≡ ed.free) × Used ed slot × (good_table 20 (table_of ids.now ends.now raws.now) ≡ true)
-        × (full.now ≡ fullPath (path_of plens.old paths.old slot) path.now) × (refused (path_of plens.old paths.old slot) path.now ≡ false)
-        × ((walked sha1 (table_of ids.now ends.now raws.now) (as_edit edit) opening (components path.now) (path_of plens.old paths.old slot) (view_of 20 ed plens.old paths.old tlens.old trees.old)).kept ≡ true) }
-    ensures { WalkedAs ed (walked sha1 (table_of ids.now ends.now raws.now) (as_edit edit) opening (components path.now) (path_of plens.old paths.old slot)
-        (view_of 20 ed plens.old paths.old tlens.old trees.old)) result plens.new paths.new tlens.new trees.new }
+pub fn walk(s: &mut Store<'_>, table: Objects<'_>, full: &[u8], path: &[u8], edit: Edit, opening: bool, slot: usize) -> Result<(), Refusal>
+    requires { LaidIn 20 s.old × (s.old.ed.hidden ≡ s.old.ed.free) × Used s.old.ed slot × (good_table 20 (objects_in table) ≡ true)
+        × (full.now ≡ fullPath (path_in_slot s.old slot) path.now) × (refused (path_in_slot s.old slot) path.now ≡ false)
+        × ((walked sha1 (objects_in table) (as_edit edit) opening (components path.now) (path_in_slot s.old slot) (view_in 20 s.old)).kept ≡ true) }
+    ensures done { WalkedAs s.old.ed (walked sha1 (objects_in table.entry) (as_edit edit) opening (components path.now) (path_in_slot s.old slot)
+        (view_in 20 s.old)) result s.new.plens.now s.new.paths.now s.new.tlens.now s.new.trees.now }
+    ensures lent { SameLent s.old s.new }
 {
     if path.len() == 0 {
         return Answer {
@@ -272,48 +211,34 @@ pub fn walk(
         let s = step(
             e, plens, paths, tlens, trees, ids, ends, raws, below, name, edit, last, opening, at,
         );
-        let code = s.code;
-        let f = s.ed;
         if is_over(s.going, last) {
-            return Answer { code, ed: f };
+            return Answer {
+                code: s.code,
+                ed: s.ed,
+            };
         }
-        e = f;
+        e = s.ed;
         at = s.slot;
-        let rest = names::path::tail(p, k);
-        p = rest;
+        p = names::path::tail(p, k);
     }
 }
 
 // Both passes: the walk of an edit, if each of its steps keeps the limits; else nothing is changed.
-pub fn settle(
-    ed: Record,
-    plens: &mut [u64],
-    paths: &mut [u8],
-    tlens: &mut [u64],
-    trees: &mut [u8],
-    ids: &[u8],
-    ends: &[u32],
-    raws: &[u8],
-    full: &[u8],
-    path: &[u8],
-    edit: Edit,
-    opening: bool,
-    slot: usize,
-) -> Answer
-    requires { Laid 20 ed plens.old paths.old tlens.old trees.old × (ed.hidden ≡ ed.free) × Used ed slot × (good_table 20 (table_of ids.now ends.now raws.now) ≡ true)
-        × (full.now ≡ fullPath (path_of plens.old paths.old slot) path.now) × (refused (path_of plens.old paths.old slot) path.now ≡ false)
-        × (valid sha1 (editor_at (view_of 20 ed plens.old paths.old tlens.old trees.old)) ≡ true) }
-    ensures { SettledAs ed plens.old paths.old tlens.old trees.old
-        (settled (editor_at (view_of 20 ed plens.old paths.old tlens.old trees.old))
-        (walked sha1 (table_of ids.now ends.now raws.now) (as_edit edit) opening (components path.now) (path_of plens.old paths.old slot)
-        (view_of 20 ed plens.old paths.old tlens.old trees.old))) result plens.new paths.new tlens.new trees.new }
+pub fn settle(s: &mut Store<'_>, table: Objects<'_>, full: &[u8], path: &[u8], edit: Edit, opening: bool, slot: usize) -> Result<(), Refusal>
+    requires { LaidIn 20 s.old × (s.old.ed.hidden ≡ s.old.ed.free) × Used s.old.ed slot × (good_table 20 (objects_in table) ≡ true)
+        × (full.now ≡ fullPath (path_in_slot s.old slot) path.now) × (refused (path_in_slot s.old slot) path.now ≡ false)
+        × (valid sha1 (editor_at (view_in 20 s.old)) ≡ true) }
+    ensures done { SettledAs s.old.ed s.old.plens.now s.old.paths.now s.old.tlens.now s.old.trees.now
+        (settled (editor_at (view_in 20 s.old))
+        (walked sha1 (objects_in table.entry) (as_edit edit) opening (components path.now) (path_in_slot s.old slot)
+        (view_in 20 s.old))) result s.new.plens.now s.new.paths.now s.new.tlens.now s.new.trees.now }
+    ensures lent { SameLent s.old s.new }
 {
     let m = crate::measure::measure(
         ed, plens, paths, tlens, trees, ids, ends, raws, full, path, edit, opening, slot,
     );
-    let code = m.code;
     if !m.kept {
-        return Answer { code, ed };
+        return Answer { code: m.code, ed };
     }
     walk(
         ed, plens, paths, tlens, trees, ids, ends, raws, full, path, edit, opening, slot,

@@ -10,64 +10,56 @@ ghost use Rattle.editor_terms.specs.Objects.{table_of};
 ghost use Rattle.editor_walk.specs.Landings.{planned, read_plan, PlanIs, LandsAs};
 
 use editor_terms::code::Code;
-use editor_terms::edit::Wanted;
 use editor_terms::id::Id;
-use editor_terms::table::Object;
-use names::tree::Checked;
-use store_slots::{Found, Record};
+use names::limits::WIDTH;
+use names::tree::Size;
+use store_slots::Record;
 
-// A raw tree of the table: where it is, how many entries and name bytes it has.
+// A raw tree of the table, and how many entries and name bytes it has.
 #[derive(Clone, Copy)]
-pub struct Raw {
-    pub from: usize,
-    pub to: usize,
-    pub entries: usize,
-    pub names: usize,
+pub struct Raw<'a> {
+    pub bytes: &'a [u8],
+    pub size: Size,
 }
 
 // The tree is cached in a slot; or an empty tree is to be cached; or a raw tree of the table is; or the walk stops.
 #[derive(Clone, Copy)]
-pub enum Landing {
+pub enum Landing<'a> {
     There(usize),
     Fresh,
-    Load(Raw),
+    Load(Raw<'a>),
     Halt(Code),
 }
 
 // The raw tree of an id, judged.
-fn land_raw(ids: &[u8], ends: &[u32], raws: &[u8], id: Id) -> Landing
+fn land_raw<'a>(ids: &[u8], ends: &[u32], raws: &'a [u8], id: Id) -> Landing<'a>
     requires { good_table 20 (table_of ids.now ends.now raws.now) ≡ true }
-    ensures { PlanIs raws.now (read_plan sha1 (looked_up sha1.width (table_of ids.now ends.now raws.now) (id_bytes id))) result }
+    ensures { PlanIs (read_plan sha1 (looked_up sha1.width (table_of ids.now ends.now raws.now) (id_bytes id))) result }
 {
-    match editor_terms::table::find(ids, ends, raws, id) {
-        Object::Nothing => Landing::Halt(Code::TreeNotFound),
-        Object::At(from, to) => {
-            let n = to - from;
-            match names::tree::well_formed(names::part::between(raws, from, n), 20) {
-                Checked::Broken => Landing::Halt(Code::TreeDamaged),
-                Checked::WellFormed {
-                    entries,
-                    name_bytes,
-                } => Landing::Load(Raw {
-                    from,
-                    to,
-                    entries,
-                    names: name_bytes,
-                }),
-            }
-        }
+    let Some(bytes) = editor_terms::table::find(ids, ends, raws, id) else {
+        return Landing::Halt(Code::TreeNotFound);
+    };
+    match names::tree::well_formed(bytes, WIDTH) {
+        Some(size) => Landing::Load(Raw { bytes, size }),
+        None => Landing::Halt(Code::TreeDamaged),
     }
 }
 
 // Nothing is cached at the path: an id that is given, and is not the empty tree's, is looked up.
-fn land_new(ids: &[u8], ends: &[u32], raws: &[u8], wanted: Wanted, leaf: bool) -> Landing
+fn land_new<'a>(
+    ids: &[u8],
+    ends: &[u32],
+    raws: &'a [u8],
+    wanted: Option<Id>,
+    leaf: bool,
+) -> Landing<'a>
     requires { good_table 20 (table_of ids.now ends.now raws.now) ≡ true }
-    ensures { PlanIs raws.now (planned sha1 (table_of ids.now ends.now raws.now) «leaf» (wanted_as wanted)) result }
+    ensures { PlanIs (planned sha1 (table_of ids.now ends.now raws.now) «leaf» (wanted_as wanted)) result }
 {
     match wanted {
-        Wanted::Nothing => Landing::Fresh,
-        Wanted::Tree(id) => {
-            if !editor_terms::id::is_empty_tree(id) {
+        None => Landing::Fresh,
+        Some(id) => {
+            if !id.is_empty_tree() {
                 return land_raw(ids, ends, raws, id);
             }
             if leaf {
@@ -80,23 +72,13 @@ fn land_new(ids: &[u8], ends: &[u32], raws: &[u8], wanted: Wanted, leaf: bool) -
 }
 
 // What going down to the path `below` finds.
-pub fn land(
-    ed: Record,
-    plens: &[u64],
-    paths: &[u8],
-    ids: &[u8],
-    ends: &[u32],
-    raws: &[u8],
-    below: &[u8],
-    wanted: Wanted,
-    leaf: bool,
-) -> Landing
-    requires { Sound plens.now paths.now ed.paths × (length plens.now ≡ 64) × (good_table 20 (table_of ids.now ends.now raws.now) ≡ true) }
-    ensures { LandsAs raws.now (planned sha1 (table_of ids.now ends.now raws.now) «leaf» (wanted_as wanted))
-        (digits 64 ed.hidden) (cut plens.now paths.now) below.now result }
+pub fn land<'a>(v: View<'_>, table: Objects<'_>, below: &[u8], wanted: Option<Id>, leaf: bool) -> Landing<'a>
+    requires { Sound v.plens.now v.paths.now v.ed.paths × (length v.plens.now ≡ 64) × (good_table 20 (objects_in table) ≡ true) }
+    ensures { LandsAs (planned sha1 (objects_in table.entry) «leaf» (wanted_as wanted))
+        (digits 64 v.entry.ed.hidden) (cut v.entry.plens.now v.entry.paths.now) below.now result }
 {
     match store_slots::find(ed, plens, paths, below) {
-        Found::At(slot) => Landing::There(slot),
-        Found::Nothing => land_new(ids, ends, raws, wanted, leaf),
+        Some(slot) => Landing::There(slot),
+        None => land_new(ids, ends, raws, wanted, leaf),
     }
 }

@@ -10,74 +10,38 @@ ghost use Rattle.store_runs.specs.Runs.{cut, Sound};
 ghost use Rattle.store_slots.specs.View.{view_of, Laid, Used, path_of};
 ghost use Rattle.editor_walk.specs.Lookups.{looked_as, LookStepIs};
 
-use editor_terms::code::Code;
 use editor_terms::edit::Seen;
-use editor_terms::id::Id;
-use names::mode::EntryKind;
-use store_slots::{Found, Record};
+use std::ops::ControlFlow;
+use store_slots::Record;
 
-// What a lookup answers: an entry's kind and id, or that there is none, or a refusal.
-#[derive(Clone, Copy)]
-pub enum Looked {
-    Found(EntryKind, Id),
-    Missing,
-    Refused(Code),
-}
-
-// How a lookup goes on after a component: it is over, or goes on in a slot.
-#[derive(Clone, Copy)]
-pub enum LookStep {
-    Over(Looked),
-    In(usize),
-}
-
-// A lookup at one component of the path, `name`; `below` is the path of the tree below it.
-fn look_in(
-    ed: Record,
-    plens: &[u64],
-    paths: &[u8],
-    tree: &[u8],
-    below: &[u8],
-    name: &[u8],
-    last: bool,
-) -> LookStep
-    requires { Sound plens.now paths.now ed.paths × (length plens.now ≡ 64) × Run 20 tree.now × (well_formed 20 (unpack 20 tree.now) ≡ true) × (has 47 name.now ≡ false) }
-    ensures { LookStepIs (digits 64 ed.hidden) (cut plens.now paths.now) (unpack 20 tree.now) below.now name.now «last» result }
+// A lookup at one component of the path, `name`: it is over, or goes on in a slot; `below` is the path of the tree below it.
+fn look_in(v: View<'_>, tree: &[u8], below: &[u8], name: &[u8], last: bool) -> ControlFlow<Option<Seen>, usize>
+    requires { Sound v.plens.now v.paths.now v.ed.paths × (length v.plens.now ≡ 64) × Run 20 tree.now × (well_formed 20 (unpack 20 tree.now) ≡ true) × (has 47 name.now ≡ false) }
+    ensures { LookStepIs (digits 64 v.entry.ed.hidden) (cut v.entry.plens.now v.entry.paths.now) (unpack 20 tree.now) below.now name.now «last» result }
 {
-    match crate::seen::seen_in(tree, name, true) {
-        Seen::Nothing => LookStep::Over(Looked::Missing),
-        Seen::Entry(kind, id) => {
-            if last {
-                return LookStep::Over(Looked::Found(kind, id));
-            }
-            if !names::mode::is_tree(kind) {
-                return LookStep::Over(Looked::Missing);
-            }
-            match store_slots::find(ed, plens, paths, below) {
-                Found::At(slot) => LookStep::In(slot),
-                Found::Nothing => LookStep::Over(Looked::Missing),
-            }
-        }
+    let Some(seen) = crate::seen::seen_in(tree, name, true) else {
+        return ControlFlow::Break(None);
+    };
+    if last {
+        return ControlFlow::Break(Some(seen));
+    }
+    if !seen.kind.is_tree() {
+        return ControlFlow::Break(None);
+    }
+    match store_slots::find(ed, plens, paths, below) {
+        Some(slot) => ControlFlow::Continue(slot),
+        None => ControlFlow::Break(None),
     }
 }
 
 // The entry at a path below the tree in a slot; `full` is that tree's path with the path. A path of no bytes has none.
-pub fn look(
-    ed: Record,
-    plens: &[u64],
-    paths: &[u8],
-    tlens: &[u64],
-    trees: &[u8],
-    full: &[u8],
-    path: &[u8],
-    slot: usize,
-) -> Looked
-    requires { Laid 20 ed plens.now paths.now tlens.now trees.now × (ed.hidden ≡ ed.free) × Used ed slot × (full.now ≡ fullPath (path_of plens.now paths.now slot) path.now) }
-    ensures { looked_as (base path.now) result
-        ≡ looked_up (components path.now) (path_of plens.now paths.now slot) (view_of 20 ed plens.now paths.now tlens.now trees.now) }
+pub fn look(v: View<'_>, full: &[u8], path: &[u8], slot: usize) -> Option<Seen>
+    requires { LaidSeen 20 v × (v.ed.hidden ≡ v.ed.free) × Used v.ed slot × (full.now ≡ fullPath (path_of v.plens.now v.paths.now slot) path.now) }
+    ensures { looked_as (base path.now) (Ok result)
+        ≡ looked_up (components path.now) (path_of v.entry.plens.now v.entry.paths.now slot) (view_of 20 v.entry.ed v.entry.plens.now v.entry.paths.now v.entry.tlens.now v.entry.trees.now) }
 {
     if path.len() == 0 {
-        return Looked::Missing;
+        return None;
     }
     let mut p = path;
     let mut at = slot;
@@ -89,14 +53,13 @@ pub fn look(
         let below = names::part::front(full, end);
         let name = names::part::front(p, k);
         match look_in(ed, plens, paths, tree, below, name, last) {
-            LookStep::Over(r) => {
-                return r;
+            ControlFlow::Break(found) => {
+                return found;
             }
-            LookStep::In(s) => {
-                at = s;
+            ControlFlow::Continue(slot_below) => {
+                at = slot_below;
             }
         }
-        let rest = names::path::tail(p, k);
-        p = rest;
+        p = names::path::tail(p, k);
     }
 }

@@ -20,13 +20,14 @@ use crate::land::Landing;
 use editor_terms::code::Code;
 use editor_terms::edit::{Edit, Seen, Turn};
 use names::limits::{ENTRIES, NAME_BYTES};
+use names::tree::Size;
 use store_slots::Record;
 
 // The tree that the walk would be at: cached in a slot, a raw tree of the table, or an empty one.
 #[derive(Clone, Copy)]
-pub enum Level {
+pub enum Level<'a> {
     Slot(usize),
-    Raw(usize, usize),
+    Raw(&'a [u8]),
     Empty,
 }
 
@@ -39,32 +40,30 @@ pub struct Measured {
 
 // What a step comes to: its number, whether the limits are kept, and whether and where the walk goes on.
 #[derive(Clone, Copy)]
-pub struct MeasureStep {
+pub struct MeasureStep<'a> {
     pub code: Code,
     pub kept: bool,
     pub going: bool,
-    pub level: Level,
+    pub level: Level<'a>,
     pub counts: Counts,
 }
 
 // The entry of a name in the tree at hand.
-fn seen_at(ed: Record, tlens: &[u64], trees: &[u8], raws: &[u8], level: Level, name: &[u8]) -> Seen
-    requires { Stored ed.trees tlens.now trees.now × ((t : Tree) × Stands tlens.now trees.now raws.now level t) × (has 47 name.now ≡ false) }
-    ensures { SeenAt tlens.now trees.now raws.now level name.now result }
+fn seen_at(v: View<'_>, level: Level<'_>, name: &[u8]) -> Option<Seen>
+    requires { Stored v.ed.trees v.tlens.now v.trees.now × ((t : Tree) × Stands v.tlens.now v.trees.now level t) × (has 47 name.now ≡ false) }
+    ensures { SeenAt v.entry.tlens.now v.entry.trees.now level.entry name.now result }
 {
     match level {
         Level::Slot(slot) => {
             crate::seen::seen_in(store_slots::tree_in(ed, tlens, trees, slot), name, false)
         }
-        Level::Raw(from, to) => {
-            crate::seen::seen_in_raw(names::part::between(raws, from, to - from), name)
-        }
-        Level::Empty => Seen::Nothing,
+        Level::Raw(raw) => crate::seen::seen_in_raw(raw, name),
+        Level::Empty => None,
     }
 }
 
 // A step that ends the walk with a number.
-fn ended(code: Code, kept: bool, u: Counts) -> MeasureStep
+fn ended<'a>(code: Code, kept: bool, u: Counts) -> MeasureStep<'a>
     ensures { EndsAs (code_number code) kept result }
 {
     MeasureStep {
@@ -77,17 +76,14 @@ fn ended(code: Code, kept: bool, u: Counts) -> MeasureStep
 }
 
 // A step down to a tree that is to be cached, of so many entries and bytes of names, at a path of n bytes.
-fn cached(level: Level, entries: usize, names: usize, n: usize, u: Counts) -> MeasureStep
+fn cached<'a>(level: Level<'a>, size: Size, n: usize, u: Counts) -> MeasureStep<'a>
     requires { (withinLimits (counts_as u) ≡ true) × (n ≤ 1280) }
-    ensures { CachesAs level entries names n (counts_as u) result }
+    ensures { CachesAs level.entry size n (counts_as u) result }
 {
-    if ENTRIES < entries {
+    if ENTRIES < size.entries || NAME_BYTES < size.name_bytes {
         return ended(Code::NoRoom, false, u);
     }
-    if NAME_BYTES < names {
-        return ended(Code::NoRoom, false, u);
-    }
-    let w = crate::counts::with_tree(entries, names, n, u);
+    let w = crate::counts::with_tree(size, n, u);
     if !crate::counts::within(w) {
         return ended(Code::NoRoom, false, w);
     }
@@ -101,9 +97,9 @@ fn cached(level: Level, entries: usize, names: usize, n: usize, u: Counts) -> Me
 }
 
 // A step that goes down to a path of n bytes.
-fn landed(landing: Landing, n: usize, u: Counts) -> MeasureStep
+fn landed<'a>(landing: Landing<'a>, n: usize, u: Counts) -> MeasureStep<'a>
     requires { (withinLimits (counts_as u) ≡ true) × (n ≤ 1280) }
-    ensures { LandedAs landing n (counts_as u) result }
+    ensures { LandedAs landing.entry n (counts_as u) result }
 {
     match landing {
         Landing::There(slot) => MeasureStep {
@@ -114,76 +110,53 @@ fn landed(landing: Landing, n: usize, u: Counts) -> MeasureStep
             counts: u,
         },
         Landing::Halt(code) => ended(code, true, u),
-        Landing::Fresh => cached(Level::Empty, 0, 0, n, u),
-        Landing::Load(raw) => {
-            let from = raw.from;
-            let to = raw.to;
-            cached(Level::Raw(from, to), raw.entries, raw.names, n, u)
-        }
+        Landing::Fresh => cached(
+            Level::Empty,
+            Size {
+                entries: 0,
+                name_bytes: 0,
+            },
+            n,
+            u,
+        ),
+        Landing::Load(raw) => cached(Level::Raw(raw.bytes), raw.size, n, u),
     }
 }
 
 // The step down after a turn, to the path `below`.
-fn go_down(
-    ed: Record,
-    plens: &[u64],
-    paths: &[u8],
-    ids: &[u8],
-    ends: &[u32],
-    raws: &[u8],
-    below: &[u8],
-    turn: Turn,
-    edit: Edit,
-    u: Counts,
-) -> MeasureStep
-    requires { Sound plens.now paths.now ed.paths × (length plens.now ≡ 64) × (good_table 20 (table_of ids.now ends.now raws.now) ≡ true)
+fn go_down<'a>(v: View<'_>, table: Objects<'_>, below: &[u8], turn: Turn, edit: Edit, u: Counts) -> MeasureStep<'a>
+    requires { Sound v.plens.now v.paths.now v.ed.paths × (length v.plens.now ≡ 64) × (good_table 20 (objects_in table) ≡ true)
         × (withinLimits (counts_as u) ≡ true) × (length below.now ≤ 1280) }
-    ensures { (tlens trees : List ℕ) → length tlens ≡ 64 → StepIs tlens trees raws.now
-        (down_as (table_of ids.now ends.now raws.now) (as_edit edit) below.now (wanted_by turn) (cached_of 20 ed plens.now paths.now tlens trees) (counts_as u)) result }
+    ensures { (tlens trees : List ℕ) → length tlens ≡ 64 → StepIs tlens trees
+        (down_as (objects_in table.entry) (as_edit edit) below.now (wanted_by turn) (cached_of 20 v.entry.ed v.entry.plens.now v.entry.paths.now tlens trees) (counts_as u)) result }
 {
-    let wanted = editor_terms::edit::wanted_by(turn);
-    let leaf = editor_terms::edit::is_leaf_removal(edit);
+    let wanted = turn.wanted();
+    let leaf = edit.is_leaf_removal();
     let landing = crate::land::land(ed, plens, paths, ids, ends, raws, below, wanted, leaf);
     landed(landing, below.len(), u)
 }
 
 // One step: the edit at the component `name`, with the path `below` of the tree below it.
-fn step(
-    ed: Record,
-    plens: &[u64],
-    paths: &[u8],
-    tlens: &[u64],
-    trees: &[u8],
-    ids: &[u8],
-    ends: &[u32],
-    raws: &[u8],
-    below: &[u8],
-    name: &[u8],
-    edit: Edit,
-    last: bool,
-    opening: bool,
-    level: Level,
-    u: Counts,
-) -> MeasureStep
-    requires { Sound plens.now paths.now ed.paths × (length plens.now ≡ 64) × Stored ed.trees tlens.now trees.now
-        × (good_table 20 (table_of ids.now ends.now raws.now) ≡ true) × ((t : Tree) × Stands tlens.now trees.now raws.now level t)
+fn step<'a>(v: View<'_>, table: Objects<'_>, below: &[u8], name: &[u8], edit: Edit, last: bool, opening: bool, level: Level<'a>, u: Counts) -> MeasureStep<'a>
+    requires { Sound v.plens.now v.paths.now v.ed.paths × (length v.plens.now ≡ 64) × Stored v.ed.trees v.tlens.now v.trees.now
+        × (good_table 20 (objects_in table) ≡ true) × ((t : Tree) × Stands v.tlens.now v.trees.now level t)
         × (has 47 name.now ≡ false) × (length below.now ≤ 1280) × (length name.now ≤ 1280) × (withinLimits (counts_as u) ≡ true) }
-    ensures { (t : Tree) → Stands tlens.now trees.now raws.now level t → StepIs tlens.now trees.now raws.now
-        (step_as (table_of ids.now ends.now raws.now) (as_edit edit) opening «last» below.now name.now t
-        (cached_of 20 ed plens.now paths.now tlens.now trees.now) (counts_as u)) result }
+    ensures { (t : Tree) → Stands v.entry.tlens.now v.entry.trees.now level.entry t → StepIs v.entry.tlens.now v.entry.trees.now
+        (step_as (objects_in table.entry) (as_edit edit) opening «last» below.now name.now t
+        (cached_of 20 v.entry.ed v.entry.plens.now v.entry.paths.now v.entry.tlens.now v.entry.trees.now) (counts_as u)) result }
 {
     let n = name.len();
     if n == 0 {
         return ended(Code::EmptyComponent, true, u);
     }
-    let seen = seen_at(ed, tlens, trees, raws, level, name);
-    let turn = editor_terms::edit::turn_of(edit, last, seen);
+    let seen = seen_at(ed, tlens, trees, level, name);
+    let turn = edit.turn(last, seen);
     let v = crate::counts::turned(turn, seen, n, u);
     if !crate::counts::within(v) {
         return ended(Code::NoRoom, false, v);
     }
-    if !editor_terms::edit::goes_down(turn, last, opening) {
-        return ended(editor_terms::edit::end_code(turn), true, v);
+    if !turn.goes_down(last, opening) {
+        return ended(turn.end_code(), true, v);
     }
     go_down(ed, plens, paths, ids, ends, raws, below, turn, edit, v)
 }
@@ -192,35 +165,15 @@ fn step(
 fn is_over(kept: bool, going: bool, last: bool) -> bool
     ensures { result ≡ (not kept || (not going || last)) }
 {
-    if !kept {
-        return true;
-    }
-    if !going {
-        return true;
-    }
-    last
+    !kept || !going || last
 }
 
 // The number of an edit, and whether each of its steps keeps the limits, from the tree in a slot; `full` is that tree's path with the path.
-pub fn measure(
-    ed: Record,
-    plens: &[u64],
-    paths: &[u8],
-    tlens: &[u64],
-    trees: &[u8],
-    ids: &[u8],
-    ends: &[u32],
-    raws: &[u8],
-    full: &[u8],
-    path: &[u8],
-    edit: Edit,
-    opening: bool,
-    slot: usize,
-) -> Measured
-    requires { Laid 20 ed plens.now paths.now tlens.now trees.now × (ed.hidden ≡ ed.free) × (fits (view_of 20 ed plens.now paths.now tlens.now trees.now) ≡ true)
-        × (good_table 20 (table_of ids.now ends.now raws.now) ≡ true) × Used ed slot × (full.now ≡ fullPath (path_of plens.now paths.now slot) path.now) × (length full.now ≤ 1280) }
-    ensures { MeasuredAs (measured sha1 (table_of ids.now ends.now raws.now) (as_edit edit) opening (path_of plens.now paths.now slot) path.now
-        (view_of 20 ed plens.now paths.now tlens.now trees.now)) result }
+pub fn measure(v: View<'_>, table: Objects<'_>, full: &[u8], path: &[u8], edit: Edit, opening: bool, slot: usize) -> Measured
+    requires { LaidSeen 20 v × (v.ed.hidden ≡ v.ed.free) × (fits (view_of 20 v.ed v.plens.now v.paths.now v.tlens.now v.trees.now) ≡ true)
+        × (good_table 20 (objects_in table) ≡ true) × Used v.ed slot × (full.now ≡ fullPath (path_of v.plens.now v.paths.now slot) path.now) × (length full.now ≤ 1280) }
+    ensures { MeasuredAs (measured sha1 (objects_in table.entry) (as_edit edit) opening (path_of v.entry.plens.now v.entry.paths.now slot) path.now
+        (view_of 20 v.entry.ed v.entry.plens.now v.entry.paths.now v.entry.tlens.now v.entry.trees.now)) result }
 {
     if path.len() == 0 {
         return Measured {
@@ -241,16 +194,14 @@ pub fn measure(
             ed, plens, paths, tlens, trees, ids, ends, raws, below, name, edit, last, opening,
             level, u,
         );
-        let code = g.code;
-        let kept = g.kept;
-        if is_over(kept, g.going, last) {
-            return Measured { code, kept };
+        if is_over(g.kept, g.going, last) {
+            return Measured {
+                code: g.code,
+                kept: g.kept,
+            };
         }
-        let l = g.level;
-        level = l;
-        let v = g.counts;
-        u = v;
-        let rest = names::path::tail(p, k);
-        p = rest;
+        level = g.level;
+        u = g.counts;
+        p = names::path::tail(p, k);
     }
 }

@@ -8,126 +8,99 @@ ghost use Rattle.editor_terms.specs.Ids.{id_bytes};
 ghost use Rattle.editor.specs.Lent.{lent, Good, Does};
 ghost use Rattle.editor_write.specs.Steps.{HoldsExactly, Made};
 
-use editor_terms::code::Code;
 use editor_terms::id::Id;
-use editor_walk::apply::Answer;
+use editor_terms::refusal::Refusal;
 use names::limits::{PATH_BYTES, SLOTS, TREE_BYTES, WIDTH};
-use store_slots::Record;
+use store_slots::{Record, Store};
 
 // The start tree was requested: the write is over. From the root it alone stays cached; from a cursor it goes back to the others.
-fn close(
-    ed: Record,
-    plens: &mut [u64],
-    paths: &mut [u8],
-    tlens: &mut [u64],
-    trees: &mut [u8],
-) -> Record
-    requires { ((order : List ℕ) × HoldsExactly (lent ed plens.old paths.old tlens.old trees.old order)) × (ed.«open» ≡ 0 → ⊥) × (ed.aside ≡ 0) }
-    ensures { (order : List ℕ) (id : Bytes) → HoldsExactly (lent ed plens.old paths.old tlens.old trees.old order) → length id ≡ 20
-        → Made (answered sha1 id) (lent ed plens.old paths.old tlens.old trees.old order) (lent result plens.new paths.new tlens.new trees.new order) }
+fn close(s: &mut Store<'_>)
+    requires { ((order : List ℕ) × HoldsExactly (lent_in s.old order)) × (s.old.ed.«open» ≡ 0 → ⊥) × (s.old.ed.aside ≡ 0) }
+    ensures done { (order : List ℕ) (id : Bytes) → HoldsExactly (lent_in s.old order) → length id ≡ 20
+        → Made (answered sha1 id) (lent_in s.old order) (lent_in s.new order) }
+    ensures lent { SameLent s.old s.new }
 {
-    if ed.open == 1 {
-        let slot = ed.asked;
-        return store_taken::keep_only(ed, plens, paths, tlens, trees, WIDTH, slot);
+    if s.ed.open == 1 {
+        let slot = s.ed.asked;
+        store_taken::keep_only(s, WIDTH, slot);
+    } else {
+        store_taken::close(&mut s.ed);
     }
-    store_taken::close(ed)
 }
 
 // Another tree was requested: its entry in its parent has the id now, and the write goes on to the next request.
-fn go_on(
-    ed: Record,
-    plens: &mut [u64],
-    paths: &mut [u8],
-    tlens: &mut [u64],
-    trees: &mut [u8],
-    order: &mut [u64],
-    id: Id,
-) -> Record
-    requires { HoldsExactly (lent ed plens.old paths.old tlens.old trees.old order.old) × (ed.«open» ≡ 0 → ⊥) × (ed.aside ≡ 0 → ⊥) }
-    ensures { Made (answered sha1 (id_bytes id)) (lent ed plens.old paths.old tlens.old trees.old order.old)
-        (lent result plens.new paths.new tlens.new trees.new order.new) }
+fn go_on(s: &mut Store<'_>, order: &mut [u64], id: Id)
+    requires { HoldsExactly (lent_in s.old order.old) × (s.old.ed.«open» ≡ 0 → ⊥) × (s.old.ed.aside ≡ 0 → ⊥) }
+    ensures done { Made (answered sha1 (id_bytes id)) (lent_in s.old order.old)
+        (lent_in s.new order.new) }
+    ensures lent { SameLent s.old s.new }
 {
-    let b = editor_terms::id::bytes(id);
-    let slot = ed.asked;
-    let one = editor_write_steps::links::link(ed, plens, paths, tlens, trees, WIDTH, slot, &b);
-    let next = editor_write_steps::turn::onward(one, plens, paths, tlens, trees, order, WIDTH);
-    let two = next.editor;
-    store_taken::ask(two, next.slot)
+    let slot = s.ed.asked;
+    editor_write_steps::links::link(s, WIDTH, slot, &id.bytes);
+    let next = editor_write_steps::turn::onward(s, order, WIDTH);
+    store_taken::ask(&mut s.ed, next);
 }
 
 // An answer over slices that hold an editor with an open write.
-fn answer_held(
-    ed: Record,
+fn answer_held(s: &mut Store<'_>, order: &mut [u64], id: Id)
+    requires { HoldsExactly (lent_in s.old order.old) × (s.old.ed.«open» ≡ 0 → ⊥) }
+    ensures done { Made (answered sha1 (id_bytes id)) (lent_in s.old order.old)
+        (lent_in s.new order.new) }
+    ensures lent { SameLent s.old s.new }
+{
+    if s.ed.aside == 0 {
+        close(s);
+    } else {
+        go_on(s, order, id);
+    }
+}
+
+// The same in the fronts of slices that may be longer.
+fn answer_fronts(
+    ed: &mut Record,
     plens: &mut [u64],
     paths: &mut [u8],
     tlens: &mut [u64],
     trees: &mut [u8],
     order: &mut [u64],
     id: Id,
-) -> Record
-    requires { HoldsExactly (lent ed plens.old paths.old tlens.old trees.old order.old) × (ed.«open» ≡ 0 → ⊥) }
-    ensures { Made (answered sha1 (id_bytes id)) (lent ed plens.old paths.old tlens.old trees.old order.old)
-        (lent result plens.new paths.new tlens.new trees.new order.new) }
+)
+    requires { Good (lent ed.old plens.old paths.old tlens.old trees.old order.old) × (ed.old.«open» ≡ 0 → ⊥) }
+    ensures { Does (answered sha1 (id_bytes id)) (lent ed.old plens.old paths.old tlens.old trees.old order.old) 0 (lent ed.new plens.new paths.new tlens.new trees.new order.new) }
 {
-    if ed.aside == 0 {
-        return close(ed, plens, paths, tlens, trees);
-    }
-    go_on(ed, plens, paths, tlens, trees, order, id)
+    let mut exact = Store {
+        ed: *ed,
+        plens: &mut plens[..SLOTS],
+        paths: &mut paths[..PATH_BYTES],
+        tlens: &mut tlens[..SLOTS],
+        trees: &mut trees[..TREE_BYTES],
+    };
+    answer_held(&mut exact, &mut order[..SLOTS], id);
+    *ed = exact.ed;
 }
 
 // An answer over a store that holds an editor: 10 where no write is open, else it is made in the fronts of the slices.
-pub(crate) fn answer_accepted(
-    ed: Record,
-    plens: &mut [u64],
-    paths: &mut [u8],
-    tlens: &mut [u64],
-    trees: &mut [u8],
-    order: &mut [u64],
-    id: Id,
-) -> Answer
-    requires { Good (lent ed plens.old paths.old tlens.old trees.old order.old) }
-    ensures { Does (answered sha1 (id_bytes id)) (lent ed plens.old paths.old tlens.old trees.old order.old) (code_number result.code)
-        (lent result.ed plens.new paths.new tlens.new trees.new order.new) }
+pub(crate) fn answer_accepted(s: &mut Store<'_>, order: &mut [u64], id: Id) -> Result<(), Refusal>
+    requires { Good (lent_in s.old order.old) }
+    ensures done { Does (answered sha1 (id_bytes id)) (lent_in s.old order.old) (code_number result)
+        (lent_in s.new order.new) }
+    ensures lent { SameLent s.old s.new }
 {
-    if ed.open == 0 {
-        return Answer {
-            code: Code::NoWriteOpen,
-            ed,
-        };
+    if s.ed.open == 0 {
+        return Err(Refusal::NoWriteOpen);
     }
-    let q = answer_held(
-        ed,
-        &mut plens[..SLOTS],
-        &mut paths[..PATH_BYTES],
-        &mut tlens[..SLOTS],
-        &mut trees[..TREE_BYTES],
-        &mut order[..SLOTS],
-        id,
-    );
-    Answer {
-        code: Code::Done,
-        ed: q,
-    }
+    answer_fronts(&mut s.ed, &mut *s.plens, &mut *s.paths, &mut *s.tlens, &mut *s.trees, order, id);
+    Ok(())
 }
 
 // Answers the open request with the id of the tree that was requested.
-pub fn answer(
-    ed: Record,
-    plens: &mut [u64],
-    paths: &mut [u8],
-    tlens: &mut [u64],
-    trees: &mut [u8],
-    order: &mut [u64],
-    id: Id,
-) -> Answer
-    ensures { Does (answered sha1 (id_bytes id)) (lent ed plens.old paths.old tlens.old trees.old order.old) (code_number result.code)
-        (lent result.ed plens.new paths.new tlens.new trees.new order.new) }
+pub fn answer(s: &mut Store<'_>, order: &mut [u64], id: Id) -> Result<(), Refusal>
+    ensures done { Does (answered sha1 (id_bytes id)) (lent_in s.old order.old) (code_number result)
+        (lent_in s.new order.new) }
+    ensures lent { SameLent s.old s.new }
 {
-    if !store_check::holds::holds(ed, plens, paths, tlens, trees, order) {
-        return Answer {
-            code: Code::StoreDamaged,
-            ed,
-        };
+    if !store_check::holds::holds(s.view(), order) {
+        return Err(Refusal::StoreDamaged);
     }
-    answer_accepted(ed, plens, paths, tlens, trees, order, id)
+    answer_accepted(s, order, id)
 }

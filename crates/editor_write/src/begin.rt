@@ -9,36 +9,38 @@ ghost use Rattle.editor_terms.specs.Answers.{code_number};
 ghost use Rattle.editor.specs.Lent.{lent, Does};
 ghost use Rattle.editor_write.specs.Steps.{HoldsExactly, Made, Answers, Starts};
 
-use editor_terms::code::Code;
-use editor_walk::apply::Answer;
+use editor_terms::refusal::Refusal;
 use names::limits::{PATH_BYTES, SLOTS, TREE_BYTES, WIDTH};
-use store_slots::{Found, Record};
+use store_slots::{Record, Store};
 
 // Begins a write at the cached tree in a slot, over slices that hold an editor with none open. `from` is 1 where it is the root's and 2 where it is a cursor's.
-fn begin_slot(
-    ed: Record,
-    plens: &mut [u64],
-    paths: &mut [u8],
-    tlens: &mut [u64],
-    trees: &mut [u8],
-    order: &mut [u64],
-    slot: usize,
-    from: u64,
-) -> Record
-    requires { HoldsExactly (lent ed plens.old paths.old tlens.old trees.old order.old) × (ed.«open» ≡ 0) × Cached ed slot × Starts from (path_of plens.old paths.old slot) }
-    ensures { Made (begun sha1 (start_of from (path_of plens.old paths.old slot))) (lent ed plens.old paths.old tlens.old trees.old order.old)
-        (lent result plens.new paths.new tlens.new trees.new order.new) }
+fn begin_slot(s: &mut Store<'_>, order: &mut [u64], slot: usize, from: u64)
+    requires { HoldsExactly (lent_in s.old order.old) × (s.old.ed.«open» ≡ 0) × Cached s.old.ed slot × Starts from (path_in_slot s.old slot) }
+    ensures done { Made (begun sha1 (start_of from (path_in_slot s.old slot))) (lent_in s.old order.old)
+        (lent_in s.new order.new) }
+    ensures lent { SameLent s.old s.new }
 {
-    let empty = Record { open: from, ..ed };
-    let one = store_taken::stack(empty, order, slot);
-    let next = editor_write_steps::turn::onward(one, plens, paths, tlens, trees, order, WIDTH);
-    let two = next.editor;
-    store_taken::ask(two, next.slot)
+    s.ed.open = from;
+    store_taken::stack(&mut s.ed, order, slot);
+    let next = editor_write_steps::turn::onward(s, order, WIDTH);
+    store_taken::ask(&mut s.ed, next);
 }
 
 // Begins a write at the tree at a prefix, over slices that hold an editor with none open.
-fn begin_held(
-    ed: Record,
+fn begin_held(s: &mut Store<'_>, order: &mut [u64], prefix: &[u8], from: u64) -> Result<(), Refusal>
+    requires { HoldsExactly (lent_in s.old order.old) × (s.old.ed.«open» ≡ 0) × Starts from prefix.now }
+    ensures done { Answers (begun sha1 (start_of from prefix.now)) (lent_in s.old order.old) (code_number result)
+        (lent_in s.new order.new) }
+    ensures lent { SameLent s.old s.new }
+{
+    let slot = s.view().find(prefix).ok_or(Refusal::CursorStale)?;
+    begin_slot(s, order, slot, from);
+    Ok(())
+}
+
+// The same in the fronts of slices that may be longer.
+fn begin_fronts(
+    ed: &mut Record,
     plens: &mut [u64],
     paths: &mut [u8],
     tlens: &mut [u64],
@@ -46,92 +48,52 @@ fn begin_held(
     order: &mut [u64],
     prefix: &[u8],
     from: u64,
-) -> Answer
-    requires { HoldsExactly (lent ed plens.old paths.old tlens.old trees.old order.old) × (ed.«open» ≡ 0) × Starts from prefix.now }
-    ensures { Answers (begun sha1 (start_of from prefix.now)) (lent ed plens.old paths.old tlens.old trees.old order.old) (code_number result.code)
-        (lent result.ed plens.new paths.new tlens.new trees.new order.new) }
+) -> Result<(), Refusal>
+    requires { Good (lent ed.old plens.old paths.old tlens.old trees.old order.old) × (ed.old.«open» ≡ 0) × Starts from prefix.now }
+    ensures { Does (begun sha1 (start_of from prefix.now)) (lent ed.old plens.old paths.old tlens.old trees.old order.old) (code_number result) (lent ed.new plens.new paths.new tlens.new trees.new order.new) }
 {
-    match store_slots::find(ed, plens, paths, prefix) {
-        Found::Nothing => Answer {
-            code: Code::CursorStale,
-            ed,
-        },
-        Found::At(slot) => {
-            let q = begin_slot(ed, plens, paths, tlens, trees, order, slot, from);
-            Answer {
-                code: Code::Done,
-                ed: q,
-            }
-        }
-    }
+    let mut exact = Store {
+        ed: *ed,
+        plens: &mut plens[..SLOTS],
+        paths: &mut paths[..PATH_BYTES],
+        tlens: &mut tlens[..SLOTS],
+        trees: &mut trees[..TREE_BYTES],
+    };
+    let answer = begin_held(&mut exact, &mut order[..SLOTS], prefix, from);
+    *ed = exact.ed;
+    answer
 }
 
 // Begins a write at a prefix, from the root (1) or from a cursor (2).
-fn begin_from(
-    ed: Record,
-    plens: &mut [u64],
-    paths: &mut [u8],
-    tlens: &mut [u64],
-    trees: &mut [u8],
-    order: &mut [u64],
-    prefix: &[u8],
-    from: u64,
-) -> Answer
+fn begin_from(s: &mut Store<'_>, order: &mut [u64], prefix: &[u8], from: u64) -> Result<(), Refusal>
     requires { Starts from prefix.now }
-    ensures { Does (begun sha1 (start_of from prefix.now)) (lent ed plens.old paths.old tlens.old trees.old order.old) (code_number result.code)
-        (lent result.ed plens.new paths.new tlens.new trees.new order.new) }
+    ensures done { Does (begun sha1 (start_of from prefix.now)) (lent_in s.old order.old) (code_number result)
+        (lent_in s.new order.new) }
+    ensures lent { SameLent s.old s.new }
 {
-    if !store_check::holds::holds(ed, plens, paths, tlens, trees, order) {
-        return Answer {
-            code: Code::StoreDamaged,
-            ed,
-        };
+    if !store_check::holds::holds(s.view(), order) {
+        return Err(Refusal::StoreDamaged);
     }
-    if ed.open != 0 {
-        return Answer {
-            code: Code::WriteOpen,
-            ed,
-        };
+    if s.ed.open != 0 {
+        return Err(Refusal::WriteOpen);
     }
-    begin_held(
-        ed,
-        &mut plens[..SLOTS],
-        &mut paths[..PATH_BYTES],
-        &mut tlens[..SLOTS],
-        &mut trees[..TREE_BYTES],
-        &mut order[..SLOTS],
-        prefix,
-        from,
-    )
+    begin_fronts(&mut s.ed, &mut *s.plens, &mut *s.paths, &mut *s.tlens, &mut *s.trees, order, prefix, from)
 }
 
 // Begins a write from the root.
-pub fn begin(
-    ed: Record,
-    plens: &mut [u64],
-    paths: &mut [u8],
-    tlens: &mut [u64],
-    trees: &mut [u8],
-    order: &mut [u64],
-) -> Answer
-    ensures { Does (begun sha1 from_root) (lent ed plens.old paths.old tlens.old trees.old order.old) (code_number result.code)
-        (lent result.ed plens.new paths.new tlens.new trees.new order.new) }
+pub fn begin(s: &mut Store<'_>, order: &mut [u64]) -> Result<(), Refusal>
+    ensures done { Does (begun sha1 from_root) (lent_in s.old order.old) (code_number result)
+        (lent_in s.new order.new) }
+    ensures lent { SameLent s.old s.new }
 {
-    begin_from(ed, plens, paths, tlens, trees, order, b"", 1)
+    begin_from(s, order, b"", 1)
 }
 
 // Begins a write at a cursor's prefix.
-pub fn begin_at(
-    ed: Record,
-    plens: &mut [u64],
-    paths: &mut [u8],
-    tlens: &mut [u64],
-    trees: &mut [u8],
-    order: &mut [u64],
-    prefix: &[u8],
-) -> Answer
-    ensures { Does (begun sha1 (from_cursor prefix.now)) (lent ed plens.old paths.old tlens.old trees.old order.old) (code_number result.code)
-        (lent result.ed plens.new paths.new tlens.new trees.new order.new) }
+pub fn begin_at(s: &mut Store<'_>, order: &mut [u64], prefix: &[u8]) -> Result<(), Refusal>
+    ensures done { Does (begun sha1 (from_cursor prefix.now)) (lent_in s.old order.old) (code_number result)
+        (lent_in s.new order.new) }
+    ensures lent { SameLent s.old s.new }
 {
-    begin_from(ed, plens, paths, tlens, trees, order, prefix, 2)
+    begin_from(s, order, prefix, 2)
 }

@@ -7,63 +7,57 @@ ghost use Rattle.editor_terms.specs.Answers.{code_number};
 ghost use Rattle.editor.specs.Lent.{lent, Does};
 ghost use Rattle.editor_write.specs.Steps.{Made};
 
-use editor_terms::code::Code;
-use editor_walk::apply::Answer;
+use editor_terms::refusal::Refusal;
 use names::limits::{PATH_BYTES, SLOTS, TREE_BYTES, WIDTH};
-use store_slots::Record;
+use store_slots::{Record, Store};
 
 // A failure over slices that hold an editor with an open write.
-fn fail_held(
-    ed: Record,
+fn fail_held(s: &mut Store<'_>, order: &[u64])
+    requires { Holds sha1 s.old.ed s.old.plens.now s.old.paths.now s.old.tlens.now s.old.trees.now order.now × (s.old.ed.«open» ≡ 0 → ⊥) }
+    ensures done { Made failed (lent_in s.old order.now)
+        (lent_in s.new order.now) }
+    ensures lent { SameLent s.old s.new }
+{
+    let start = store_slots::start(s.ed, order);
+    store_taken::drop_others(s, WIDTH, start);
+    store_taken::close(&mut s.ed);
+}
+
+// The same in the fronts of slices that may be longer.
+fn fail_fronts(
+    ed: &mut Record,
     plens: &mut [u64],
     paths: &mut [u8],
     tlens: &mut [u64],
     trees: &mut [u8],
     order: &[u64],
-) -> Record
-    requires { Holds sha1 ed plens.old paths.old tlens.old trees.old order.now × (ed.«open» ≡ 0 → ⊥) }
-    ensures { Made failed (lent ed plens.old paths.old tlens.old trees.old order.now)
-        (lent result plens.new paths.new tlens.new trees.new order.now) }
+)
+    requires { Good (lent ed.old plens.old paths.old tlens.old trees.old order.now) × (ed.old.«open» ≡ 0 → ⊥) }
+    ensures { Does failed (lent ed.old plens.old paths.old tlens.old trees.old order.now) 0 (lent ed.new plens.new paths.new tlens.new trees.new order.now) }
 {
-    let start = store_slots::start(ed, order);
-    let one = store_taken::drop_others(ed, plens, paths, tlens, trees, WIDTH, start);
-    store_taken::close(one)
+    let mut exact = Store {
+        ed: *ed,
+        plens: &mut plens[..SLOTS],
+        paths: &mut paths[..PATH_BYTES],
+        tlens: &mut tlens[..SLOTS],
+        trees: &mut trees[..TREE_BYTES],
+    };
+    fail_held(&mut exact, &order[..SLOTS]);
+    *ed = exact.ed;
 }
 
 // Fails the open request: the start tree goes back as it stands, the other taken trees are lost.
-pub fn fail(
-    ed: Record,
-    plens: &mut [u64],
-    paths: &mut [u8],
-    tlens: &mut [u64],
-    trees: &mut [u8],
-    order: &[u64],
-) -> Answer
-    ensures { Does failed (lent ed plens.old paths.old tlens.old trees.old order.now) (code_number result.code)
-        (lent result.ed plens.new paths.new tlens.new trees.new order.now) }
+pub fn fail(s: &mut Store<'_>, order: &[u64]) -> Result<(), Refusal>
+    ensures done { Does failed (lent_in s.old order.now) (code_number result)
+        (lent_in s.new order.now) }
+    ensures lent { SameLent s.old s.new }
 {
-    if !store_check::holds::holds(ed, plens, paths, tlens, trees, order) {
-        return Answer {
-            code: Code::StoreDamaged,
-            ed,
-        };
+    if !store_check::holds::holds(s.view(), order) {
+        return Err(Refusal::StoreDamaged);
     }
-    if ed.open == 0 {
-        return Answer {
-            code: Code::NoWriteOpen,
-            ed,
-        };
+    if s.ed.open == 0 {
+        return Err(Refusal::NoWriteOpen);
     }
-    let q = fail_held(
-        ed,
-        &mut plens[..SLOTS],
-        &mut paths[..PATH_BYTES],
-        &mut tlens[..SLOTS],
-        &mut trees[..TREE_BYTES],
-        &order[..SLOTS],
-    );
-    Answer {
-        code: Code::Done,
-        ed: q,
-    }
+    fail_fronts(&mut s.ed, &mut *s.plens, &mut *s.paths, &mut *s.tlens, &mut *s.trees, order);
+    Ok(())
 }

@@ -7,47 +7,33 @@ ghost use Rattle.editor.specs.Lent.{lent, Does};
 ghost use Rattle.editor_write.specs.Requests.{Requests};
 
 use crate::request::Asked;
-use editor_terms::code::Code;
 use editor_terms::id::Id;
-use store_slots::Record;
+use editor_terms::refusal::Refusal;
+use store_slots::Store;
 
-// What an answer gave, the editor after it, and what reading the next request gave.
+// What an answer gave, and what reading the next request gave.
 #[derive(Drop)]
 pub struct AnsweredAndRead {
-    pub code: Code,
-    pub ed: Record,
-    pub next: Asked,
+    pub answer: Result<(), Refusal>,
+    pub next: Result<Asked, Refusal>,
 }
 
 // Answers the open request with the id of the tree that was requested, and reads the request that is open then.
-pub fn answer_and_request(
-    ed: Record,
-    plens: &mut [u64],
-    paths: &mut [u8],
-    tlens: &mut [u64],
-    trees: &mut [u8],
-    order: &mut [u64],
-    id: Id,
-    out: &mut [u8],
-) -> AnsweredAndRead
-    ensures { Does (answered sha1 (id_bytes id)) (lent ed plens.old paths.old tlens.old trees.old order.old) (code_number result.code)
-        (lent result.ed plens.new paths.new tlens.new trees.new order.new)
-        × Requests (lent result.ed plens.new paths.new tlens.new trees.new order.new) result.next.code result.next.len result.next.at out.old out.new }
+pub fn answer_and_request(s: &mut Store<'_>, order: &mut [u64], id: Id, out: &mut [u8]) -> AnsweredAndRead
+    ensures done { Does (answered sha1 (id_bytes id)) (lent_in s.old order.old) (code_number result.answer)
+        (lent_in s.new order.new)
+        × Requests (lent_in s.new order.new) (answer_of result.next) (len_of result.next) (place_of result.next) out.old out.new }
+    ensures lent { SameLent s.old s.new }
 {
-    if !store_check::holds::holds(ed, plens, paths, tlens, trees, order) {
+    if !store_check::holds::holds(s.view(), order) {
         return AnsweredAndRead {
-            code: Code::StoreDamaged,
-            ed,
-            next: crate::request::refused(Code::StoreDamaged),
+            answer: Err(Refusal::StoreDamaged),
+            next: Err(Refusal::StoreDamaged),
         };
     }
-    let a = crate::answer::answer_accepted(ed, plens, paths, tlens, trees, order, id);
-    let code = a.code;
-    let now = a.ed;
-    let next = crate::request::request_accepted(now, plens, paths, tlens, trees, out);
+    let answer = crate::answer::answer_accepted(s, order, id);
     AnsweredAndRead {
-        code,
-        ed: now,
-        next,
+        answer,
+        next: crate::request::request_accepted(s.view(), out),
     }
 }

@@ -12,96 +12,59 @@ ghost use Rattle.editor.specs.Looks.{cursor_at};
 ghost use Rattle.editor_write.specs.Requests.{place_in, Shows, Requests};
 
 use editor::cursor::Cursor;
-use editor_terms::code::Code;
+use editor_terms::refusal::Refusal;
 use names::limits::{PATH_BYTES, SLOTS, TREE_BYTES, WIDTH};
-use store_slots::Record;
+use store_slots::View;
 
-// The answer, how long the raw tree is that was written to the front of the output, and where the tree belongs; the root where it is refused.
+// How long the raw tree is that was written to the front of the output, and where the tree belongs.
 #[derive(Drop)]
 pub struct Asked {
-    pub code: Code,
     pub len: usize,
     pub at: Cursor,
 }
 
-// The answer that refuses.
-pub(crate) fn refused(code: Code) -> Asked
-    ensures { (result.code ≡ code) × (result.len ≡ 0) × (result.at ≡ cursor_at []) }
-{
-    Asked {
-        code,
-        len: 0,
-        at: editor::cursor::to_cursor(),
-    }
-}
-
 // The request over slices that hold an editor with an open write.
-fn request_held(
-    ed: Record,
-    plens: &[u64],
-    paths: &[u8],
-    tlens: &[u64],
-    trees: &[u8],
-    out: &mut [u8],
-) -> Asked
-    requires { Readable 20 ed tlens.now trees.now ed.asked × Sound plens.now paths.now ed.paths × (ed.asked < length plens.now) }
-    ensures { (E : Model) (h : Held) → requested E ≡ some h → h ≡ held_at 20 plens.now paths.now tlens.now trees.now ed.asked → length h.path ≤ 1024
-        → Shows (λ m. show m E) result.code result.len out.old out.new × (result.at ≡ cursor_at (place_in (show (length out.old) E) (requested E))) }
+fn request_held(v: View<'_>, out: &mut [u8]) -> Result<Asked, Refusal>
+    requires { Readable 20 v.ed v.tlens.now v.trees.now v.ed.asked × Sound v.plens.now v.paths.now v.ed.paths × (v.ed.asked < length v.plens.now) }
+    ensures { (E : Model) (h : Held) → requested E ≡ some h → h ≡ held_at 20 v.entry.plens.now v.entry.paths.now v.entry.tlens.now v.entry.trees.now v.entry.ed.asked → length h.path ≤ 1024
+        → Shows (λ m. show m E) (answer_of result) (len_of result) out.old out.new × (place_of result ≡ cursor_at (place_in (show (length out.old) E) (requested E))) }
 {
-    let slot = ed.asked;
-    let n = store_trees::raw::raw_len_of(ed, tlens, trees, WIDTH, slot);
+    let slot = v.ed.asked;
+    let n = store_trees::raw::raw_len_of(v, WIDTH, slot);
     if out.len() < n {
-        return refused(Code::OutputShort(n));
+        return Err(Refusal::OutputShort(n));
     }
-    let len = store_trees::raw::put_raw(ed, tlens, trees, WIDTH, slot, out);
-    let at = editor::cursor::at(store_slots::path_in(ed, plens, paths, slot));
-    Asked {
-        code: Code::Done,
-        len,
-        at,
-    }
+    Ok(Asked {
+        len: store_trees::raw::put_raw(v, WIDTH, slot, out),
+        at: editor::cursor::at(v.path_in(slot)),
+    })
 }
 
 // The request over a store that holds an editor: 10 where no write is open. Its order of the taken trees is not looked at.
-pub(crate) fn request_accepted(
-    ed: Record,
-    plens: &[u64],
-    paths: &[u8],
-    tlens: &[u64],
-    trees: &[u8],
-    out: &mut [u8],
-) -> Asked
-    requires { (order : List ℕ) × Good (lent ed plens.now paths.now tlens.now trees.now order) }
-    ensures { (order : List ℕ) → Good (lent ed plens.now paths.now tlens.now trees.now order)
-        → Requests (lent ed plens.now paths.now tlens.now trees.now order) result.code result.len result.at out.old out.new }
+pub(crate) fn request_accepted(v: View<'_>, out: &mut [u8]) -> Result<Asked, Refusal>
+    requires { (order : List ℕ) × Good (lent_seen v order) }
+    ensures { (order : List ℕ) → Good (lent_seen v.entry order)
+        → Requests (lent_seen v.entry order) (answer_of result) (len_of result) (place_of result) out.old out.new }
 {
-    if ed.open == 0 {
-        return refused(Code::NoWriteOpen);
+    if v.ed.open == 0 {
+        return Err(Refusal::NoWriteOpen);
     }
-    request_held(
-        ed,
-        &plens[..SLOTS],
-        &paths[..PATH_BYTES],
-        &tlens[..SLOTS],
-        &trees[..TREE_BYTES],
-        out,
-    )
+    let fronts = View {
+        ed: v.ed,
+        plens: &v.plens[..SLOTS],
+        paths: &v.paths[..PATH_BYTES],
+        tlens: &v.tlens[..SLOTS],
+        trees: &v.trees[..TREE_BYTES],
+    };
+    request_held(fronts, out)
 }
 
 // Writes the raw tree that is requested to the front of the output.
-pub fn request(
-    ed: Record,
-    plens: &[u64],
-    paths: &[u8],
-    tlens: &[u64],
-    trees: &[u8],
-    order: &[u64],
-    out: &mut [u8],
-) -> Asked
-    ensures { Requests (lent ed plens.now paths.now tlens.now trees.now order.now) result.code result.len result.at out.old out.new }
+pub fn request(v: View<'_>, order: &[u64], out: &mut [u8]) -> Result<Asked, Refusal>
+    ensures { Requests (lent_seen v.entry order.now) (answer_of result) (len_of result) (place_of result) out.old out.new }
 {
-    if !store_check::holds::holds(ed, plens, paths, tlens, trees, order) {
-        return refused(Code::StoreDamaged);
+    if !store_check::holds::holds(v, order) {
+        return Err(Refusal::StoreDamaged);
     }
-    request_accepted(ed, plens, paths, tlens, trees, out)
+    request_accepted(v, out)
 }

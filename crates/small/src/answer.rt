@@ -3,7 +3,6 @@ ghost use Rattle.std.specs.Prelude.{OnOk};
 ghost use Rattle.std.specs.Io.KnownBytes.{Appends};
 ghost use Rattle.small_run.specs.Lesson.{output};
 
-use lines::text::Put;
 use std::io;
 use std::io::Write;
 
@@ -13,7 +12,7 @@ pub fn answer<W: Write>(input: &[u8], writer: &mut W) -> io::Result<()>
 {
     let mut out = [0u8; 303104];
     match small_run::run::run(input, &mut out) {
-        Put::At(n) => writer.write_all(names::part::front(&out, n)),
-        Put::Refused => unreachable!(),
+        Some(n) => writer.write_all(names::part::front(&out, n)),
+        None => unreachable!(),
     }
 }

@@ -3,7 +3,6 @@
 #![tactic(auto)]
 
 mod answer;
-mod input;
 
 use std::process::ExitCode;
 
@@ -15,11 +14,10 @@ fn failed(rt: &impl Eprint, message: &str) -> ExitCode {
 
 fn main(rt: HostRuntime) -> ExitCode {
     let mut space = [0u8; 65537];
-    let got = input::read_input(&mut rt.stdin(), &mut space);
-    if got.failed {
+    let Ok(len) = streams::read_full(&mut rt.stdin(), &mut space) else {
         return failed(&rt, "small: standard input cannot be read");
-    }
-    match answer::answer(&space[..got.len], &mut rt.stdout()) {
+    };
+    match answer::answer(&space[..len], &mut rt.stdout()) {
         Ok(()) => ExitCode::SUCCESS,
         Err(_) => failed(&rt, "small: standard output cannot be written"),
     }

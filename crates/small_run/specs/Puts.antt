@@ -1,11 +1,9 @@
 -- What is written into lent bytes from a place on, and what a call leaves in a store that holds an editor. Assumes nothing.
-use Rattle.std.specs.Prelude.{ℕ, ◌+◌, ◌≤◌, ◌<◌, ◌≡◌, length, replicate}
+use Rattle.std.specs.Prelude.{ℕ, ◌+◌, ◌≤◌, ◌<◌, ◌≡◌, length, replicate, Option, Some, None}
 use Rattle.model.specs.Bytes.{Bytes}
 use Rattle.model.specs.Calls.{Answer}
 use Rattle.names.specs.Splice.{splice}
 use Rattle.editor.specs.Lent.{Lent, Good, viewed}
-use Rattle.lines.specs.declared.text.Put.{Put}
-use Rattle.lines.specs.declared.text.Put.TheVariants.{At, Refused}
 
 -- e is d with s written from the place on, and every other byte as it was; n is the place after s
 pub record PutAt (d : Bytes) (at : ℕ) (s : Bytes) (n : ℕ) (e : Bytes) : Type 0 where
@@ -15,14 +13,14 @@ pub record PutAt (d : Bytes) (at : ℕ) (s : Bytes) (n : ℕ) (e : Bytes) : Type
   pub done : e ≡ splice d at s
 
 -- it is written whole; or it does not fit, and nothing is said of the bytes
-abbrev pub Puts : Bytes → ℕ → Bytes → Put → Bytes → Type 0
-Puts d at s (At n) e = PutAt d at s n e
-Puts d at s Refused e = length d < at + length s
+abbrev pub Puts : Bytes → ℕ → Bytes → Option ℕ → Bytes → Type 0
+Puts d at s (Some n) e = PutAt d at s n e
+Puts d at s None e = length d < at + length s
 
 -- What the program's run gives, every byte decided: the text at the front, with the bytes behind it as they were; or it does not fit, and each byte is 0
-abbrev pub Gives : Bytes → Bytes → Put → Bytes → Type 0
-Gives d s (At n) e = PutAt d 0 s n e
-Gives d s Refused e = (length d < length s) × (e ≡ replicate (length d) 0)
+abbrev pub Gives : Bytes → Bytes → Option ℕ → Bytes → Type 0
+Gives d s (Some n) e = PutAt d 0 s n e
+Gives d s None e = (length d < length s) × (e ≡ replicate (length d) 0)
 
 -- the store q holds the editor that the answer leaves
 pub record Leaves (a : Answer) (q : Lent) : Type 0 where

@@ -51,15 +51,6 @@ taken_start s asked stacked (h ∷ hs) =
     regroup true b c d = refl
     regroup false b c d = refl
 
--- ---- what lies below those set aside: the requested tree, and the stacked ones
-
-module _ (p : Bytes) (stacked aside : List Held) (c : Bool) (t : c ≡ has_parent p aside) where
-  pub below_unasked : c ≡ false → false ≡ (has_parent p aside && have_parents stacked aside)
-  below_unasked e = sym (ap (λ (x : Bool). x && have_parents stacked aside) (sym t ∙ e))
-
-  pub below_rest : c ≡ true → (d : Bool) → d ≡ have_parents stacked aside → d ≡ (has_parent p aside && have_parents stacked aside)
-  below_rest e d q = q ∙ sym (ap (λ (x : Bool). x && have_parents stacked aside) (sym t ∙ e))
-
 module _ (w : ℕ) (plens paths tlens trees order : List ℕ) where
   abbrev h : ℕ → Held
   h = held_at w plens paths tlens trees

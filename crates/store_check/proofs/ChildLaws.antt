@@ -11,6 +11,8 @@ use lib.Dec.{eqb, ltb}
 use lib.ListN.{length, take, drop, get_or, set, length-set}
 use lib.Seq.{split_at, get_or-set_same, get_or-set_other}
 use borrow.Author.Rules.{part_to_end}
+use Rattle.std.specs.Prelude.{Option, Some, None, MatchOption}
+use Rattle.std.specs.Bool.{⊤}
 use Rattle.model.specs.Bytes.{Bytes, has, same}
 use Rattle.model.specs.Tree.{Entry, Tree, is_tree, key, entry_of, well_formed}
 use Rattle.model.specs.Paths.{join, base, dir}
@@ -23,12 +25,12 @@ use Rattle.model.proofs.SoundTrees.{Sound, sound_well}
 use Rattle.model.proofs.WriteKeepsTrees.{all_found, tree_entry}
 use Rattle.names_compact.specs.Compact.{unpack, Run, blank, entry_at}
 use Rattle.names_compact.proofs.CompactLaws.{Mark, mark, offset_before, offset_zero, zero_tree}
-use Rattle.store_runs.specs.Runs.{total, run_of}
+use Rattle.store_runs.specs.Runs.{total, cut, run_of}
 use Rattle.store_runs.proofs.FindLaws.{cut_at}
 use Rattle.store_runs.proofs.RunLaws.{total_more, total_within}
 use Rattle.store_slots.specs.View.{Used, path_of, tree_of}
 use Rattle.store_slots.specs.declared.Record.{Record}
-use Rattle.store_slots.proofs.Changes.{searched_run, tree_run}
+use Rattle.store_slots.proofs.Changes.{searched_run}
 use Rattle.store_check.specs.Parents.{Begins, Begun, Read, Starts, Named, Child, Table, Children, Parented, Hanging}
 use Rattle.store_check.specs.Written.{Taking, aside_by}
 use Rattle.store_check.specs.declared.parents.Known.{Known}
@@ -59,9 +61,6 @@ module _ {lens : List ℕ} {i sum : ℕ} {begins : List ℕ} (g : Beginning lens
       go k l true t =
           ap (λ (x : ℕ). get_or (set begins i sum) x 0) (eqb-true k i t) ∙ get_or-set_same begins i sum 0 (omega (arith, h, g.written.length)) ∙ g.start ∙ ap (λ (x : ℕ). total (take x lens)) (sym (eqb-true k i t))
       go k l false t = get_or-set_other begins i k sum 0 (eqb-false k i t) ∙ g.written.at k (omega (arith, l, eqb-false k i t))
-
-  pub begin_all : length lens ≤ i → Begins lens (length lens) begins
-  begin_all h = record { length = g.written.length; at = λ k l. g.written.at k (omega (arith, h, l)) }
 
 module _ {plens paths begins : List ℕ} (B : Begun plens paths begins) {k : ℕ} (h : k < 64) where
   pub begun_end : get_or begins k 0 + get_or plens k 0 ≤ length paths
@@ -111,10 +110,6 @@ module _ {w : ℕ} {b : Bytes} {a : ℕ} (s : Starts w b a) (q : Read w b) (h : 
 
 -- ---- a path below another
 
-pub below_root : (q p : Bytes) → length q ≡ 0 → p ≡ join q p
-below_root [] p e = refl
-below_root (x ∷ q) p e = absurd (omega (arith, e))
-
 joined : (q x : Bytes) → (length q ≡ 0 → ⊥) → q ++ (47 ∷ x) ≡ join q x
 joined [] x n = absurd (n refl)
 joined (y ∷ q) x n = refl
@@ -138,6 +133,10 @@ child_of {q} {n} {p} {t} m e =
 pub some_byte : (n : Bytes) → (length n ≡ 0 → ⊥) → n ≡ [] → ⊥
 some_byte n h e = h (ap length e)
 
+pub where_some : {P Q : ℕ → Type 0} (o : Option ℕ) → MatchOption o ⊤ P → ((x : ℕ) → P x → Q x) → MatchOption o ⊤ Q
+where_some None m f = tt
+where_some (Some x) m f = f x m
+
 -- ---- the children in the table
 
 -- those from i on are children, and the walk has come to `at`
@@ -148,27 +147,27 @@ pub record Going (q : Bytes) (w : ℕ) (b : Bytes) (plens paths order : List ℕ
 pub going_all : (q : Bytes) (w : ℕ) (b : Bytes) (plens paths order : List ℕ) (lo hi : ℕ) → lo ≤ hi → Going q w b plens paths order lo hi hi 0
 going_all q w b plens paths order lo hi h = record { kids = record { low = h; high = omega arith; each = λ j g l. absurd (omega (arith, g, l)) }; place = starts_first w b }
 
-module _ {q : Bytes} {w : ℕ} {b : Bytes} {plens paths order : List ℕ} {lo hi i at : ℕ} (g : Going q w b plens paths order lo hi i at) (h : lo < i) where
-  pub going_more : (p : Bytes) (z : ℕ) → p ≡ path_of plens paths (get_or order (i - 1) 0) → Starts w b z → Child q (unpack w b) p → Going q w b plens paths order lo hi (i - 1) z
-  going_more p z e s d = record { kids = record { low = omega arith; high = omega (arith, g.kids.high); each = λ j x y. go j x y (eqb j (i - 1)) refl }; place = s }
-    where
-      here : Child q (unpack w b) (path_of plens paths (get_or order (i - 1) 0))
-      here = subst (Child q (unpack w b)) e d
-
-      go : (j : ℕ) → i - 1 ≤ j → j < hi → (t : Bool) → eqb j (i - 1) ≡ t → Child q (unpack w b) (path_of plens paths (get_or order j 0))
-      go j x y true f = subst (λ (m : ℕ). Child q (unpack w b) (path_of plens paths (get_or order m 0))) (sym (eqb-true j (i - 1) f)) here
-      go j x y false f = g.kids.each j (omega (arith, x, eqb-false j (i - 1) f)) y
-
 -- ---- all stacked trees
 
 module _ {w : ℕ} {r : Record} {plens paths tlens trees order : List ℕ} (T : Taking w r plens paths tlens trees order) where
-  pub all_begun : {begins : List ℕ} → Begins plens (length plens) begins → Begun plens paths begins
+  pub all_begun : {begins : List ℕ} → Begins plens 64 begins → Begun plens paths begins
   all_begun {begins} B =
       let L = T.lays.laid in
-      record { fits = omega (arith, L.paths_sound.sum, L.paths_sound.fits); plens_64 = L.plens_64; starts = subst (λ (x : ℕ). Begins plens x begins) L.plens_64 B }
+      record { fits = omega (arith, L.paths_sound.sum, L.paths_sound.fits); plens_64 = L.plens_64; starts = B }
 
   pub hanging_none : Hanging w r plens paths tlens trees order (record { low = 64; asked = false })
   hanging_none = record { stacked = record { low = omega arith; high = omega arith; each = λ j g l. absurd (omega (arith, g, l)) }; asked = λ y. no_way (sym y) }
+
+  -- the tree of a slot
+  pub slot_read : (k : ℕ) (b : Bytes) → k < 64 → b ≡ get_or (cut tlens trees) k [] → Read w b
+  slot_read k b h e =
+      let L = T.lays.laid in
+      let q : b ≡ run_of tlens trees k = e ∙ cut_at tlens trees k (omega (arith, h, L.tlens_64)) in
+      record {
+        run = subst (Run w) (sym q) (searched_run w r plens paths tlens trees L k h);
+        narrow = T.narrow;
+        well = ap (λ (x : Bytes). well_formed w (unpack w x)) e ∙ L.well k h;
+      }
 
   module _ {i : ℕ} (P : Parented w r plens paths tlens trees order i) where
     pub stacked_table : {begins : List ℕ} → Begun plens paths begins → Table plens paths begins order (64 - r.stacked) i
@@ -194,26 +193,16 @@ module _ {w : ℕ} {r : Record} {plens paths tlens trees order : List ℕ} (T : 
       aside_slot : Used r (get_or order n 0) × (has (get_or order n 0) (take r.aside order) ≡ true)
       aside_slot = aside_at T.opened n m T.order_64
 
-      pub aside_read : (b : Bytes) → b ≡ run_of tlens trees (get_or order n 0) → Read w b
-      aside_read b e =
-          let k : ℕ = get_or order n 0 in
-          let u : k < 64 = aside_slot.0.low in
-          record {
-            run = subst (Run w) (sym e) (searched_run w r plens paths tlens trees T.lays.laid k u);
-            narrow = T.narrow;
-            well = ap (λ (x : Bytes). well_formed w (unpack w x)) e ∙ ap (well_formed w) (tree_run w r plens paths tlens trees T.lays.laid k u) ∙ T.lays.laid.well k u;
-          }
-
-      module _ (q b : Bytes) (e : q ≡ path_of plens paths (get_or order n 0)) (f : b ≡ run_of tlens trees (get_or order n 0)) where
-        child_below : (p : Bytes) → Child q (unpack w b) p → has_parent p (aside_by w plens paths tlens trees order r.aside) ≡ true
+      module _ (q b : Bytes) (v : ℕ) (e : q ≡ path_of plens paths (get_or order n 0)) (u : v ≡ w) (f : b ≡ get_or (cut tlens trees) (get_or order n 0) []) where
+        child_below : (p : Bytes) → Child q (unpack v b) p → has_parent p (aside_by w plens paths tlens trees order r.aside) ≡ true
         child_below p d =
             let k : ℕ = get_or order n 0 in
-            let u : Used r k = aside_slot.0 in
+            let z : Used r k = aside_slot.0 in
             let home : path_of plens paths k ≡ dir p = sym e ∙ sym d.above in
-            let tree : tree_of w tlens trees k ≡ unpack w b = sym (ap (unpack w) f ∙ tree_run w r plens paths tlens trees T.lays.laid k u.low) in
-            below_known w r plens paths tlens trees T.lays p k u home (take r.aside order) (aside_used T.opened r.aside (omega arith)) aside_slot.1 (ap (λ (x : Tree). is_tree_entry (entry_of (base p) x)) tree ∙ d.entry)
+            let tree : tree_of w tlens trees k ≡ unpack v b = sym (ap₂ unpack u f) in
+            below_known w r plens paths tlens trees T.lays p k z home (take r.aside order) (aside_used T.opened r.aside (omega arith)) aside_slot.1 (ap (λ (x : Tree). is_tree_entry (entry_of (base p) x)) tree ∙ d.entry)
 
-        pub hanging_more : (g : Known) (p : Bytes) → p ≡ path_of plens paths r.asked → Children q (unpack w b) plens paths order (64 - r.stacked) i g.low → (g.asked ≡ true → Child q (unpack w b) p) →
+        pub hanging_more : (g : Known) (p : Bytes) → p ≡ path_of plens paths r.asked → Children q (unpack v b) plens paths order (64 - r.stacked) i g.low → (g.asked ≡ true → Child q (unpack v b) p) →
             Hanging w r plens paths tlens trees order g
         hanging_more g p l c d =
             record {

@@ -1,29 +1,22 @@
 -- A count of the trees one after the other: what is left of the record's counts, and what a check of one run says. Assumes nothing.
-use mathlib.Core.Path.{◌≡◌, refl, sym, ap, ◌∙◌}
-use mathlib.Core.Bool.{Bool, true, false}
+use mathlib.Core.Path.{◌≡◌, refl, sym, ap, ◌∙◌, subst}
 use mathlib.Core.List.{List, [], ◌∷◌, map}
-use mathlib.Core.Option.{some}
+use mathlib.Core.Option.{none, some}
 use Prim.Native.Nat.{ℕ, zero, suc, ◌+◌, ◌-◌, ◌≤◌, ◌<◌}
 use native.Mathlib.Omega.{arith}
-use lib.Dec.{eqb}
+use borrow.Author.Count.{below_more}
 use lib.ListN.{length, take, get_or, length-map}
 use lib.Seq.{take_all}
-use borrow.Author.Tests.{eqb-true, eqb-false}
 use Rattle.model.specs.Bytes.{Bytes}
 use Rattle.model.proofs.Basics.{none_some}
-use Rattle.names.specs.Answers.{checked_as}
 use Rattle.names.specs.Check.{size_of}
+use Rattle.names.specs.declared.tree.Size.{Size}
 use Rattle.names_compact.specs.Compact.{unpack}
 use Rattle.names_compact.specs.Judge.{compact_tree}
-use Rattle.names.specs.declared.tree.Checked.{Checked}
-use Rattle.names.specs.declared.tree.Checked.TheVariants.{WellFormed, Broken}
 use Rattle.names_compact.proofs.JudgeLaws.{compact_only, compact_back, compact_sized}
-use Rattle.store_runs.specs.Moves.{part}
-use Rattle.store_runs.specs.Runs.{total, cut, Sound}
-use Rattle.store_runs.proofs.RunLaws.{total_within, total_more, length_cut}
-use Rattle.store_check.specs.Decides.{Decides}
+use Rattle.store_runs.specs.Runs.{total}
+use Rattle.store_runs.proofs.RunLaws.{total_within, total_more}
 use Rattle.store_check.specs.Laid.{Whole, entries_in, names_in, Trees}
-use Rattle.store_check.proofs.Deciding.{all_so, Along, along_none, run_here, along_more}
 
 -- ---- what is left of a count after the first k runs
 
@@ -52,20 +45,20 @@ module _ {f : Bytes → ℕ} {bs : List Bytes} {all left k : ℕ} (s : Spent f b
   pub spent_all : length bs ≤ k → left ≡ 0 → total (map f bs) ≡ all
   spent_all h z = omega (arith, whole_sum h)
 
-  pub spent_left : length bs ≤ k → (left ≡ 0 → ⊥) → total (map f bs) ≡ all → ⊥
-  spent_left h n t = n (omega (arith, whole_sum h, t))
+  pub spent_left : length bs ≤ k → total (map f bs) ≡ all → left ≡ 0
+  spent_left h t = omega (arith, whole_sum h, t)
 
 -- ---- what the check of a run says
 
-module _ (w : ℕ) (b : Bytes) (x : Checked) (e : checked_as x ≡ size_of (compact_tree w b)) where
-  pub broken : x ≡ Broken → Whole w b → ⊥
-  broken q t =
+module _ (w : ℕ) (b : Bytes) where
+  pub broken : none ≡ size_of (compact_tree w b) → Whole w b → ⊥
+  broken e t =
       let c : compact_tree w b ≡ some (unpack w b) = ap (compact_tree w) t.packed ∙ compact_back w (unpack w b) t.well in
-      none_some _ (sym (ap checked_as q) ∙ e ∙ ap size_of c)
+      none_some _ (e ∙ ap size_of c)
 
-  module _ (n m : ℕ) (q : x ≡ WellFormed n m) where
+  module _ (n m : ℕ) (e : some (record { entries = n; bytes = m }) ≡ size_of (compact_tree w b)) where
     sized : (compact_tree w b ≡ some (unpack w b)) × (length (unpack w b) ≡ n) × (names_in w b ≡ m)
-    sized = compact_sized w b (record { entries = n; bytes = m }) (sym e ∙ ap checked_as q)
+    sized = compact_sized w b (record { entries = n; bytes = m }) (sym e)
 
     pub formed : Whole w b
     formed =
@@ -80,55 +73,48 @@ module _ (w : ℕ) (b : Bytes) (x : Checked) (e : checked_as x ≡ size_of (comp
 
 -- ---- the count of all trees
 
--- the runs before the run k, which starts at a, are whole, and es entries and ns name bytes are left to the others
-pub record Counting (w : ℕ) (lens bytes : List ℕ) (E N es ns a k : ℕ) : Type 0 where
-  pub along : Along (λ j. Whole w (get_or (cut lens bytes) j [])) lens k a
-  pub entries : Spent (entries_in w) (cut lens bytes) E es k
-  pub names : Spent (names_in w) (cut lens bytes) N ns k
+-- the first k of them are whole, and so many entries and name bytes are left to the others
+pub record Counting (w : ℕ) (bs : List Bytes) (all left : Size) (k : ℕ) : Type 0 where
+  pub whole : (j : ℕ) → j < k → Whole w (get_or bs j [])
+  pub entries : Spent (entries_in w) bs all.entries left.entries k
+  pub names : Spent (names_in w) bs all.name_bytes left.name_bytes k
 
-pub count_none : {w : ℕ} {lens bytes : List ℕ} {E N : ℕ} → Counting w lens bytes E N E N 0 0
-count_none = record { along = along_none; entries = spent_none; names = spent_none }
+pub count_none : {w : ℕ} {bs : List Bytes} {all : Size} → Counting w bs all all 0
+count_none = record { whole = λ j h. absurd (omega arith); entries = spent_none; names = spent_none }
 
-module _ {w : ℕ} {lens bytes : List ℕ} {E N es ns a k : ℕ} (c : Counting w lens bytes E N es ns a k) where
-  module _ {used : ℕ} (sound : Sound lens bytes used) (l : length lens ≡ 64) (h : k < 64) (x : Checked) (e : checked_as x ≡ size_of (compact_tree w (part bytes a (a + get_or lens k 0 - a)))) where
-    here : checked_as x ≡ size_of (compact_tree w (get_or (cut lens bytes) k []))
-    here = e ∙ ap (λ (b : Bytes). size_of (compact_tree w b)) (run_here c.along sound l h)
+module _ {w : ℕ} {bs : List Bytes} {all left : Size} {k : ℕ} (c : Counting w bs all left k) where
+  module _ (b : Bytes) (h : k < length bs) (l : length bs ≤ 64) (q : b ≡ get_or bs k []) where
+    pub count_broken : none ≡ size_of (compact_tree w b) → Trees w bs all.entries all.name_bytes → ⊥
+    count_broken e t = broken w b e (subst (Whole w) (sym q) (t.whole k (omega arith)))
 
-    inside : k < length (cut lens bytes)
-    inside = omega (arith, length_cut lens bytes, l)
+    module _ (size : Size) (e : some (record { entries = size.entries; bytes = size.name_bytes }) ≡ size_of (compact_tree w b)) where
+      its_entries : size.entries ≡ entries_in w (get_or bs k [])
+      its_entries = formed_entries w b size.entries size.name_bytes e ∙ ap (entries_in w) q
 
-    pub count_broken : x ≡ Broken → Trees w (cut lens bytes) E N → ⊥
-    count_broken q t = broken w (get_or (cut lens bytes) k []) x here q (t.whole k h)
+      its_names : size.name_bytes ≡ names_in w (get_or bs k [])
+      its_names = formed_names w b size.entries size.name_bytes e ∙ ap (names_in w) q
 
-    module _ {n m : ℕ} (q : x ≡ WellFormed n m) where
-      pub count_over : es < n → Trees w (cut lens bytes) E N → ⊥
-      count_over o t = spent_over c.entries n inside (formed_entries w (get_or (cut lens bytes) k []) x here n m q) o t.entries
+      pub count_over : left.entries < size.entries → Trees w bs all.entries all.name_bytes → ⊥
+      count_over o t = spent_over c.entries size.entries h its_entries o t.entries
 
-      pub count_over_names : ns < m → Trees w (cut lens bytes) E N → ⊥
-      count_over_names o t = spent_over c.names m inside (formed_names w (get_or (cut lens bytes) k []) x here n m q) o t.names
+      pub count_over_names : left.name_bytes < size.name_bytes → Trees w bs all.entries all.name_bytes → ⊥
+      count_over_names o t = spent_over c.names size.name_bytes h its_names o t.names
 
-      pub count_more : n ≤ es → m ≤ ns → Counting w lens bytes E N (es - n) (ns - m) (a + get_or lens k 0) (k + 1)
+      pub count_more : size.entries ≤ left.entries → size.name_bytes ≤ left.name_bytes →
+          Counting w bs all (record { entries = left.entries - size.entries; name_bytes = left.name_bytes - size.name_bytes }) (k + 1)
       count_more f g =
           record {
-            along = along_more c.along sound l h (formed w (get_or (cut lens bytes) k []) x here n m q);
-            entries = spent_more c.entries n inside (formed_entries w (get_or (cut lens bytes) k []) x here n m q) f;
-            names = spent_more c.names m inside (formed_names w (get_or (cut lens bytes) k []) x here n m q) g;
+            whole = below_more (λ j. Whole w (get_or bs j [])) k c.whole (subst (Whole w) q (formed w b size.entries size.name_bytes e));
+            entries = spent_more c.entries size.entries h its_entries f;
+            names = spent_more c.names size.name_bytes h its_names g;
           }
 
-  module _ (l : length lens ≡ 64) (h : 64 ≤ k) where
-    past : length (cut lens bytes) ≤ k
-    past = omega (arith, length_cut lens bytes, l)
+  module _ (l : length bs ≡ 64) (h : k ≡ length bs) where
+    pub no_entries : Trees w bs all.entries all.name_bytes → left.entries ≡ 0
+    no_entries t = spent_left c.entries (omega arith) t.entries
 
-    pub count_left : (es ≡ 0 → ⊥) → Trees w (cut lens bytes) E N → ⊥
-    count_left n t = spent_left c.entries past n t.entries
+    pub no_names : Trees w bs all.entries all.name_bytes → left.name_bytes ≡ 0
+    no_names t = spent_left c.names (omega arith) t.names
 
-    pub count_all : es ≡ 0 → Decides (Trees w (cut lens bytes) E N) (eqb ns 0)
-    count_all z =
-        record {
-          yes = λ t. record { whole = all_so c.along.sofar h; entries = spent_all c.entries past z; names = spent_all c.names past (eqb-true ns 0 t) };
-          no = λ t. go t (eqb ns 0) refl;
-        }
-      where
-        go : Trees w (cut lens bytes) E N → (b : Bool) → eqb ns 0 ≡ b → b ≡ true
-        go t true q = refl
-        go t false q = absurd (spent_left c.names past (eqb-false ns 0 q) t.names)
+    pub count_all : left.entries ≡ 0 → left.name_bytes ≡ 0 → Trees w bs all.entries all.name_bytes
+    count_all y z = record { whole = λ j g. c.whole j (omega arith); entries = spent_all c.entries (omega arith) y; names = spent_all c.names (omega arith) z }

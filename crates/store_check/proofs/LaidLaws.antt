@@ -23,8 +23,14 @@ use Rattle.store_slots.specs.View.{slots, view_of, tree_room, Laid}
 use Rattle.store_slots.specs.declared.Record.{Record}
 use Rattle.store_slots.proofs.Gather.{gather_entries, gather_names}
 use Rattle.store_slots.proofs.Counts.{slots_is, paths_is}
-use Rattle.store_check.specs.Laid.{Lays, Lengths, good_path, Paths, Trees}
+use Rattle.store_check.specs.Laid.{Lays, Blank, good_path, Paths, Trees}
 use Rattle.store_check.proofs.SlotLaws.{slots_all, all_slots, Good, good_all, all_good_lem, apart_distinct, distinct_apart, sum_slots}
+
+-- the lengths add up to what is in use, and those of the free slots are 0
+pub record Lengths (r : Record) (plens paths tlens trees : List ℕ) : Type 0 where
+  pub paths_sound : Sound plens paths r.paths
+  pub trees_sound : Sound tlens trees r.trees
+  pub blank : (k : ℕ) → k < 64 → Blank (get_or (digits 64 r.free) k 0) (get_or plens k 0) (get_or tlens k 0)
 
 -- a run is empty exactly where its length is 0
 module _ (lens bytes : List ℕ) (used k : ℕ) (sound : Sound lens bytes used) (h : k < length lens) where

@@ -4,6 +4,7 @@ pub mod ChildLaws
 pub mod CountLaws
 pub mod DecideLaws
 pub mod Deciding
+pub mod EachLaws
 pub mod LaidLaws
 pub mod MarkLaws
 pub mod ParentLaws

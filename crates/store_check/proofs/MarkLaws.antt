@@ -1,5 +1,5 @@
 -- Laws of the slots that are set in a map one after the other: each takes its tree off the list of those left. Assumes nothing.
-use mathlib.Core.Path.{◌≡◌, refl, sym, ap, ◌∙◌}
+use mathlib.Core.Path.{◌≡◌, refl, sym, ap, ◌∙◌, subst}
 use mathlib.Core.Bool.{Bool, true, false, not, ◌&&◌}
 use mathlib.Core.List.{List, [], ◌∷◌, ◌++◌, map}
 use Prim.Native.Nat.{ℕ, zero, suc, ◌+◌, ◌*◌, ◌/◌, ◌%◌, ◌^◌, ◌≤◌, ◌<◌}
@@ -9,7 +9,8 @@ use borrow.Author.Tests.{eqb-true, eqb-false, eq-eqb, ne_eqb, ltb-true, lt-ltb, 
 use lib.Arith.{lt-one}
 use lib.Dec.{eqb, ltb}
 use lib.ListN.{length, take, drop, get_or, set}
-use lib.Seq.{slice, slice_empty, take-suc, length-take-le, drop-append-le, get_or-set_same, get_or-set_other}
+use lib.Seq.{take_all, take-suc, get_or-set_same, get_or-set_other}
+use Rattle.std.specs.Prelude.{Option, Some, None}
 use Rattle.model.specs.Bytes.{Bytes, has}
 use Rattle.model.specs.Tree.{distinct}
 use Rattle.model.specs.Editor.{Held, at}
@@ -24,7 +25,6 @@ use Rattle.store_slots.specs.View.{if_used, held_in, slots_of, marked, all_diffe
 use Rattle.store_slots.proofs.Slots.{front, back, slot, id, split_used, if_used_append}
 use Rattle.store_slots.proofs.Gather.{total_more, distinct_remove}
 use Rattle.store_check.specs.Written.{markable, Marks}
-use Rattle.store_check.specs.declared.open_write.Marked.{Marked}
 
 -- one slot set
 slots_mark : (k w : ℕ) (ds : List ℕ) (ps bs : List Bytes) → k < length ds → length ps ≡ length ds → length bs ≡ length ds →
@@ -170,60 +170,49 @@ unfolding marked
 marked_one k ds = refl
 
 module _ (before k : ℕ) where
-  pub marks_out : 64 ≤ k → Marks (k ∷ []) before (record { good = false; map = before })
-  marks_out h = record { good = sym (one_out k (digits 64 before) (omega (arith, length_digits 64 before))); map = λ e. no_way (sym e) }
+  pub marks_out : 64 ≤ k → Marks (k ∷ []) before None
+  marks_out h = one_out k (digits 64 before) (omega (arith, length_digits 64 before))
 
-  pub marks_set : get_or (digits 64 before) k 0 ≡ 1 → Marks (k ∷ []) before (record { good = false; map = before })
-  marks_set h = record { good = sym (one_set k (digits 64 before) h); map = λ e. no_way (sym e) }
+  pub marks_set : get_or (digits 64 before) k 0 ≡ 1 → Marks (k ∷ []) before None
+  marks_set h = one_set k (digits 64 before) h
 
-  pub marks_one : (m : ℕ) → k < 64 → get_or (digits 64 before) k 0 ≡ 0 → digits 64 m ≡ set (digits 64 before) k 1 → Marks (k ∷ []) before (record { good = true; map = m })
-  marks_one m l h e = record { good = sym (one_clear k (digits 64 before) (omega (arith, length_digits 64 before)) h); map = λ t. e ∙ sym (marked_one k (digits 64 before)) }
+  pub marks_one : (m : ℕ) → k < 64 → get_or (digits 64 before) k 0 ≡ 0 → digits 64 m ≡ set (digits 64 before) k 1 → Marks (k ∷ []) before (Some m)
+  marks_one m l h e = (one_clear k (digits 64 before) (omega (arith, length_digits 64 before)) h, e ∙ sym (marked_one k (digits 64 before)))
 
--- ---- the slots of a part of the table
+-- ---- one list of slots after the other
 
-pub slice_snoc : (lo j : ℕ) (l : List ℕ) → lo ≤ j → j < length l → slice lo (suc j) l ≡ slice lo j l ++ (get_or l j 0 ∷ [])
-slice_snoc lo j l h g =
-    ap (drop lo) (take-suc l j 0 g) ∙ drop-append-le lo (take j l) (get_or l j 0 ∷ []) (omega (arith, length-take-le j l (omega arith)))
+pub marks_bad : (a b : List ℕ) (before : ℕ) → Marks b before None → Marks (a ++ b) before None
+marks_bad a b before f = markable_append a b (digits 64 before) ∙ ap (λ (x : Bool). x && markable a (marked b (digits 64 before))) f
 
--- from i to hi they are set: what is left decides
-pub record Setting (before : ℕ) (order : List ℕ) (lo hi i now : ℕ) : Type 0 where
-  pub low : lo ≤ i
-  pub high : i ≤ hi
-  pub good : markable (slice lo hi order) (digits 64 before) ≡ markable (slice lo i order) (digits 64 now)
-  pub map : marked (slice lo hi order) (digits 64 before) ≡ marked (slice lo i order) (digits 64 now)
+module _ (a b : List ℕ) (before mid : ℕ) (m : Marks b before (Some mid)) where
+  markable_rest : markable (a ++ b) (digits 64 before) ≡ markable a (digits 64 mid)
+  markable_rest =
+      markable_append a b (digits 64 before) ∙ ap (λ (x : Bool). x && markable a (marked b (digits 64 before))) m.0 ∙ ap (markable a) (sym m.1)
 
-pub setting_all : (before : ℕ) (order : List ℕ) (lo hi : ℕ) → lo ≤ hi → Setting before order lo hi hi before
-setting_all before order lo hi h = record { low = h; high = omega arith; good = refl; map = refl }
+  pub marks_append : (o : Option ℕ) → Marks a mid o → Marks (a ++ b) before o
+  marks_append None f = markable_rest ∙ f
+  marks_append (Some after) f = (markable_rest ∙ f.0, f.1 ∙ ap (marked a) m.1 ∙ sym (marked_append a b (digits 64 before)))
 
-module _ {before : ℕ} {order : List ℕ} {lo hi i now : ℕ} (s : Setting before order lo hi i now) where
-  module _ (j : ℕ) (e : i ≡ suc j) (h : lo ≤ j) (g : hi ≤ length order) (m : Marked) (k : Marks (get_or order j 0 ∷ []) now m) where
-    part : slice lo i order ≡ slice lo j order ++ (get_or order j 0 ∷ [])
-    part = ap (λ (x : ℕ). slice lo x order) e ∙ slice_snoc lo j order h (omega (arith, s.high, e, g))
+-- ---- the last first
 
-    good_part : markable (slice lo hi order) (digits 64 before) ≡ (m.good && markable (slice lo j order) (marked (get_or order j 0 ∷ []) (digits 64 now)))
-    good_part =
-        s.good ∙ ap (λ (x : List ℕ). markable x (digits 64 now)) part ∙ markable_append (slice lo j order) (get_or order j 0 ∷ []) (digits 64 now)
-        ∙ ap (λ (x : Bool). x && markable (slice lo j order) (marked (get_or order j 0 ∷ []) (digits 64 now))) (sym k.good)
+-- those from i on are set: the others decide
+pub record Setting (before : ℕ) (ks : List ℕ) (i now : ℕ) : Type 0 where
+  pub rest : (o : Option ℕ) → Marks (take i ks) now o → Marks ks before o
 
-    pub setting_bad : m.good ≡ false → Marks (slice lo hi order) before m
-    setting_bad b = record { good = b ∙ sym (good_part ∙ ap (λ (x : Bool). x && markable (slice lo j order) (marked (get_or order j 0 ∷ []) (digits 64 now))) b); map = λ t. no_way (sym t ∙ b) }
+pub setting_all : (before : ℕ) (ks : List ℕ) (i : ℕ) → length ks ≤ i → Setting before ks i before
+setting_all before ks i h = record { rest = λ o m. subst (λ (x : List ℕ). Marks x before o) (take_all i ks h) m }
 
-    pub setting_more : m.good ≡ true → Setting before order lo hi j m.map
-    setting_more b =
-        record {
-          low = h;
-          high = omega (arith, s.high, e);
-          good =
-              good_part ∙ ap (λ (x : Bool). x && markable (slice lo j order) (marked (get_or order j 0 ∷ []) (digits 64 now))) b
-              ∙ ap (markable (slice lo j order)) (sym (k.map b));
-          map =
-              s.map ∙ ap (λ (x : List ℕ). marked x (digits 64 now)) part ∙ marked_append (slice lo j order) (get_or order j 0 ∷ []) (digits 64 now)
-              ∙ ap (marked (slice lo j order)) (sym (k.map b));
-        }
+module _ {before : ℕ} {ks : List ℕ} {i now : ℕ} (s : Setting before ks i now) where
+  module _ (j k : ℕ) (e : i ≡ suc j) (h : j < length ks) (q : k ≡ get_or ks j 0) where
+    part : take i ks ≡ take j ks ++ (k ∷ [])
+    part = ap (λ (x : ℕ). take x ks) e ∙ take-suc ks j 0 h ∙ ap (λ (x : ℕ). take j ks ++ (x ∷ [])) (sym q)
 
-  pub setting_done : i ≤ lo → Marks (slice lo hi order) before (record { good = true; map = now })
+    pub setting_bad : Marks (k ∷ []) now None → Marks ks before None
+    setting_bad m = s.rest None (ap (λ (x : List ℕ). markable x (digits 64 now)) part ∙ marks_bad (take j ks) (k ∷ []) now m)
+
+    pub setting_more : (after : ℕ) → Marks (k ∷ []) now (Some after) → Setting before ks j after
+    setting_more after m = record { rest = λ o n. s.rest o (subst (λ (x : List ℕ). Marks x now o) (sym part) (marks_append (take j ks) (k ∷ []) now after m o n)) }
+
+  pub setting_done : i ≡ 0 → Marks ks before (Some now)
   unfolding markable marked
-  setting_done h =
-      let q : i ≡ lo = omega (arith, h, s.low) in
-      let e : slice lo i order ≡ [] = ap (λ (x : ℕ). slice lo x order) q ∙ slice_empty lo order in
-      record { good = sym (s.good ∙ ap (λ (x : List ℕ). markable x (digits 64 now)) e); map = λ t. sym (s.map ∙ ap (λ (x : List ℕ). marked x (digits 64 now)) e) }
+  setting_done e = s.rest (Some now) (subst (λ (x : List ℕ). Marks x now (Some now)) (sym (ap (λ (x : ℕ). take x ks) e)) (refl, refl))

@@ -9,6 +9,7 @@ use borrow.Author.Tests.{eqb-true, eqb-false}
 use lib.Dec.{eqb}
 use lib.ListN.{length, take, drop, get_or, length-drop}
 use lib.Seq.{take-take, length-take-le, get_or-take, get_or-drop}
+use Rattle.std.specs.Prelude.{Option as Answer, Some, None, Result}
 use Rattle.model.specs.Bytes.{Bytes, has, same}
 use Rattle.model.specs.Map.{find, is_some}
 use Rattle.model.specs.Search.{Spot, searched}
@@ -24,13 +25,11 @@ use Rattle.model.proofs.MapLaws.{find_put_same}
 use Rattle.model.proofs.SearchLaws.{Right, halving_right}
 use Rattle.model.proofs.SoundTrees.{Sound, sound_well, find_key}
 use Rattle.model.proofs.ValidSums.{one, is_at}
-use Rattle.names_compact.specs.Compact.{unpack, spot_of, Tells}
+use Rattle.names_compact.specs.Compact.{unpack, spot_of, found_of, place_of, Tells}
 use Rattle.names_compact.specs.declared.compact.Place.{Place}
 use Rattle.store_runs.specs.Digits.{digits}
 use Rattle.store_runs.specs.Find.{find_from}
 use Rattle.store_runs.specs.Runs.{cut}
-use Rattle.store_runs.specs.declared.runs.Found.{Found}
-use Rattle.store_runs.specs.declared.runs.Found.TheVariants.{At, Nothing}
 use Rattle.store_runs.proofs.DigitLaws.{length_digits}
 use Rattle.store_slots.specs.View.{slots, gather, view_of, SlotIs, Used, path_of, tree_of, held_at, all_different, Opened}
 use Rattle.store_slots.specs.declared.Record.{Record}
@@ -75,10 +74,10 @@ hits k t b i s e r = go b (subst (Right key k t) (sym e) r)
     go true (x, ys, d, f) = sym (ap is_some f)
     go false (f, g, l) = sym (ap is_some f)
 
-pub tree_found : (w : ℕ) (n b : Bytes) (r : Place) → well_formed w (unpack w b) ≡ true → Plain n → Tells w b (searched key (as_kind true n) (unpack w b)) r → r.found ≡ is_tree_entry (entry_of n (unpack w b))
+pub tree_found : (w : ℕ) (n b : Bytes) (r : Result Place Place) → well_formed w (unpack w b) ≡ true → Plain n → Tells w b (searched key (as_kind true n) (unpack w b)) r → found_of r ≡ is_tree_entry (entry_of n (unpack w b))
 tree_found w n b r h p t =
     let s : Sound (unpack w b) = sound_well w (unpack w b) h in
-    hits (as_kind true n) (unpack w b) r.found r.index _ t.spot (halving_right key (length (unpack w b)) (as_kind true n) (unpack w b) (omega arith) s.in_order)
+    hits (as_kind true n) (unpack w b) (found_of r) (place_of r).index _ t.spot (halving_right key (length (unpack w b)) (as_kind true n) (unpack w b) (omega arith) s.in_order)
     ∙ tree_entry n (unpack w b) p s
 
 -- ---- a list of trees, one of which is the parent
@@ -191,17 +190,17 @@ module _ (w : ℕ) (r : Record) (plens paths tlens trees : List ℕ) (S : Lays w
     pub below_known : (k : ℕ) → Used r k → path_of plens paths k ≡ dir p → (ks : List ℕ) → All (Used r) ks → has k ks ≡ true → is_tree_entry (entry_of (base p) (tree_of w tlens trees k)) ≡ true → has_parent p (reverse (map h ks)) ≡ true
     below_known k u e ks a t y = parent_reverse p (map h ks) ∙ parent_is_lem k u e ks a ∙ ap₂ (λ (x z : Bool). x && z) t y
 
-    module _ (q : Bytes) (e : q ≡ dir p) (f : Found) (g : f ≡ find_from 0 D ps q) where
+    module _ (q : Bytes) (e : q ≡ dir p) (f : Answer ℕ) (g : f ≡ find_from 0 D ps q) where
       told : SlotIs w D ps bs (dir p) f
       told = subst (λ (x : Bytes). SlotIs w D ps bs x f) e (subst (SlotIs w D ps bs q) (sym g) (slot_is w r.free ps bs q (ps_even w r plens paths tlens trees S.laid) (bs_even w r plens paths tlens trees S.laid)))
 
-      pub parent_slot : (k : ℕ) → f ≡ At k → Used r k × (path_of plens paths k ≡ dir p)
+      pub parent_slot : (k : ℕ) → f ≡ Some k → Used r k × (path_of plens paths k ≡ dir p)
       parent_slot k t = let s = subst (SlotIs w D ps bs (dir p)) t told in (record { low = omega (arith, length_digits 64 r.free, s.0); used = s.1 }, s.2)
 
-      pub below_slot : (k : ℕ) → f ≡ At k → (ks : List ℕ) → All (Used r) ks → has_parent p (reverse (map h ks)) ≡ (has k ks && is_tree_entry (entry_of (base p) (tree_of w tlens trees k)))
+      pub below_slot : (k : ℕ) → f ≡ Some k → (ks : List ℕ) → All (Used r) ks → has_parent p (reverse (map h ks)) ≡ (has k ks && is_tree_entry (entry_of (base p) (tree_of w tlens trees k)))
       below_slot k t ks a = let (u, s) = parent_slot k t in parent_reverse p (map h ks) ∙ parent_is_lem k u s ks a
 
-      pub below_none : f ≡ Nothing → (ks : List ℕ) → All (Used r) ks → has_parent p (reverse (map h ks)) ≡ false
+      pub below_none : f ≡ None → (ks : List ℕ) → All (Used r) ks → has_parent p (reverse (map h ks)) ≡ false
       below_none t ks a = let s = subst (SlotIs w D ps bs (dir p)) t told in parent_reverse p (map h ks) ∙ parent_none s.0 ks a
 
 -- ---- the slots that are taken

@@ -1,20 +1,20 @@
 -- A path whose number has not come before is new: equal paths have equal numbers. Assumes nothing.
 use mathlib.Core.Path.{◌≡◌, refl, sym, ap, ◌∙◌, subst}
-use mathlib.Core.Bool.{Bool, true, false}
-use mathlib.Core.List.{List, []}
+use mathlib.Core.Bool.{Bool, true, false, ◌&&◌}
+use mathlib.Core.List.{List, [], ◌∷◌}
 use Prim.Native.Nat.{ℕ, zero, suc, ◌+◌, ◌/◌, ◌%◌, ◌<◌}
 use native.Mathlib.Omega.{arith}
+use Rattle.std.specs.List.{list_all}
 use lib.Dec.{eqb}
 use lib.ListN.{length, get_or, set, length-set}
 use lib.Seq.{get_or-set_same, get_or-set_other}
+use borrow.Author.Count.{below_more}
 use borrow.Author.Tests.{eqb-true, eqb-false}
 use Rattle.model.specs.Bytes.{Bytes}
 use Rattle.store_runs.specs.Digits.{digits}
-use Rattle.store_runs.specs.Runs.{cut, Sound}
 use Rattle.store_runs.proofs.DigitLaws.{length_digits, digit_zero}
-use Rattle.store_check.specs.Laid.{First}
+use Rattle.store_check.specs.Laid.{First, good_path}
 use Rattle.store_check.specs.Tag.{tag_of}
-use Rattle.store_check.proofs.Deciding.{Sofar, none_yet, one_more, Along, along_none, along_as, along_more}
 
 -- the number t is set in the words
 abbrev pub Set : List ℕ → ℕ → Type 0
@@ -51,54 +51,56 @@ module _ (seen : List ℕ) (t w : ℕ) (l : length seen ≡ 64) (h : t < 4096) (
           ∙ digit_still (s % 64) (ap (λ (x : ℕ). get_or (digits 64 (get_or seen x 0)) (s % 64) 0) (sym r) ∙ z)
       go false q = ap (λ (x : ℕ). get_or (digits 64 x) (s % 64) 0) (get_or-set_other seen (t / 64) (s / 64) w 0 (eqb-false (s / 64) (t / 64) q)) ∙ z
 
--- the slots before k that are not among `again` are first at their paths if used; the numbers of the used ones are set; and the run k starts at a
-pub record Seen (map : ℕ) (plens paths seen : List ℕ) (again k a : ℕ) : Type 0 where
-  pub along : Along (λ j. get_or (digits 64 again) j 0 ≡ 0 → First (digits 64 map) (cut plens paths) j) plens k a
+-- the slots before k that are not among `again` are first at their paths if used, and the numbers of the used ones are set
+pub record Seen (map : ℕ) (ps : List Bytes) (seen : List ℕ) (again k : ℕ) : Type 0 where
+  pub sofar : (j : ℕ) → j < k → get_or (digits 64 again) j 0 ≡ 0 → First (digits 64 map) ps j
   pub words : length seen ≡ 64
-  pub known : Sofar (λ j. get_or (digits 64 map) j 0 ≡ 0 → Set seen (tag_of (get_or (cut plens paths) j []))) k
+  pub known : (j : ℕ) → j < k → get_or (digits 64 map) j 0 ≡ 0 → Set seen (tag_of (get_or ps j []))
 
-pub seen_none : {map : ℕ} {plens paths seen : List ℕ} {again : ℕ} → length seen ≡ 64 → Seen map plens paths seen again 0 0
-seen_none l = record { along = along_none; words = l; known = none_yet }
+pub seen_none : {map : ℕ} {ps : List Bytes} {seen : List ℕ} {again : ℕ} → length seen ≡ 64 → Seen map ps seen again 0
+seen_none l = record { sofar = λ j h. absurd (omega arith); words = l; known = λ j h. absurd (omega arith) }
 
-pub seen_as_lem : {map : ℕ} {plens paths seen : List ℕ} {again k a : ℕ} → Seen map plens paths seen again k a → (l : List ℕ) (g : ℕ) → l ≡ seen → g ≡ again → Seen map plens paths l g k a
-seen_as_lem {map} {plens} {paths} {seen} {again} {k} {a} at l g e f =
-    subst (λ (x : List ℕ). Seen map plens paths x g k a) (sym e) (subst (λ (x : ℕ). Seen map plens paths seen x k a) (sym f) at)
+pub seen_as_lem : {map : ℕ} {ps : List Bytes} {seen : List ℕ} {again k : ℕ} → Seen map ps seen again k → (l : List ℕ) (g n : ℕ) → l ≡ seen → g ≡ again → n ≡ k → Seen map ps l g n
+seen_as_lem {map} {ps} {seen} {again} {k} at l g n e f q =
+    subst (λ (x : List ℕ). Seen map ps x g n) (sym e) (subst (λ (x : ℕ). Seen map ps seen x n) (sym f) (subst (λ (x : ℕ). Seen map ps seen again x) (sym q) at))
 
-module _ {map : ℕ} {plens paths seen : List ℕ} {again k a used : ℕ} (at : Seen map plens paths seen again k a) (sound : Sound plens paths used) (l : length plens ≡ 64) (h : k < 64) where
-  pub seen_free : (get_or (digits 64 map) k 0 ≡ 0 → ⊥) → Seen map plens paths seen again (k + 1) (a + get_or plens k 0)
+module _ {map : ℕ} {ps : List Bytes} {seen : List ℕ} {again k : ℕ} (at : Seen map ps seen again k) where
+  pub seen_free : (get_or (digits 64 map) k 0 ≡ 0 → ⊥) → Seen map ps seen again (k + 1)
   seen_free n =
       record {
-        along = along_more at.along sound l h (λ z u. absurd (n u));
+        sofar = below_more (λ j. get_or (digits 64 again) j 0 ≡ 0 → First (digits 64 map) ps j) k at.sofar (λ z u. absurd (n u));
         words = at.words;
-        known = one_more at.known h (λ u. absurd (n u));
+        known = below_more (λ j. get_or (digits 64 map) j 0 ≡ 0 → Set seen (tag_of (get_or ps j []))) k at.known (λ u. absurd (n u));
       }
 
-  module _ (p : Bytes) (t : ℕ) (e : p ≡ get_or (cut plens paths) k []) (f : t ≡ tag_of p) where
-    its_number : t ≡ tag_of (get_or (cut plens paths) k [])
+  module _ (h : k < 64) (p : Bytes) (t : ℕ) (e : p ≡ get_or ps k []) (f : t ≡ tag_of p) where
+    its_number : t ≡ tag_of (get_or ps k [])
     its_number = f ∙ ap tag_of e
 
     -- a number that came before
-    pub seen_again : (g : ℕ) → Set seen t → digits 64 g ≡ set (digits 64 again) k 1 → Seen map plens paths seen g (k + 1) (a + get_or plens k 0)
+    pub seen_again : (g : ℕ) → Set seen t → digits 64 g ≡ set (digits 64 again) k 1 → Seen map ps seen g (k + 1)
     seen_again g s d =
         record {
-          along = along_more (along_as at.along earlier) sound l h (λ z. absurd (omega (arith, z, here)));
+          sofar = below_more (λ j. get_or (digits 64 g) j 0 ≡ 0 → First (digits 64 map) ps j) k (λ j m z. at.sofar j m (earlier j m z)) (λ z. absurd (omega (arith, z, here)));
           words = at.words;
-          known = one_more at.known h (λ u. subst (Set seen) its_number s);
+          known = below_more (λ j. get_or (digits 64 map) j 0 ≡ 0 → Set seen (tag_of (get_or ps j []))) k at.known (λ u. subst (Set seen) its_number s);
         }
       where
         here : get_or (digits 64 g) k 0 ≡ 1
         here = ap (λ (x : List ℕ). get_or x k 0) d ∙ get_or-set_same (digits 64 again) k 1 0 (omega (arith, length_digits 64 again))
 
-        earlier : (j : ℕ) → j < k → (get_or (digits 64 again) j 0 ≡ 0 → First (digits 64 map) (cut plens paths) j) → get_or (digits 64 g) j 0 ≡ 0 → First (digits 64 map) (cut plens paths) j
-        earlier j m q z = q (sym (ap (λ (x : List ℕ). get_or x j 0) d ∙ get_or-set_other (digits 64 again) k j 1 0 (λ o. omega (arith, o))) ∙ z)
+        earlier : (j : ℕ) → j < k → get_or (digits 64 g) j 0 ≡ 0 → get_or (digits 64 again) j 0 ≡ 0
+        earlier j m z = sym (ap (λ (x : List ℕ). get_or x j 0) d ∙ get_or-set_other (digits 64 again) k j 1 0 (λ o. omega (arith, o))) ∙ z
 
     -- a number that did not
-    pub seen_new : (w : ℕ) → t < 4096 → get_or (digits 64 (get_or seen (t / 64) 0)) (t % 64) 0 ≡ 0 → digits 64 w ≡ set (digits 64 (get_or seen (t / 64) 0)) (t % 64) 1 → Seen map plens paths (set seen (t / 64) w) again (k + 1) (a + get_or plens k 0)
+    pub seen_new : (w : ℕ) → t < 4096 → get_or (digits 64 (get_or seen (t / 64) 0)) (t % 64) 0 ≡ 0 → digits 64 w ≡ set (digits 64 (get_or seen (t / 64) 0)) (t % 64) 1 → Seen map ps (set seen (t / 64) w) again (k + 1)
     seen_new w g n d =
         record {
-          along = along_more at.along sound l h (λ z u j m v q. let o = subst (Set seen) (ap tag_of q ∙ sym its_number) (at.known.each j m v) in omega (arith, n, o));
+          sofar = below_more (λ j. get_or (digits 64 again) j 0 ≡ 0 → First (digits 64 map) ps j) k at.sofar
+              (λ z u j m v q. let o = subst (Set seen) (ap tag_of q ∙ sym its_number) (at.known j m v) in omega (arith, n, o));
           words = length-set seen (t / 64) w ∙ at.words;
-          known = one_more (record { within = at.known.within; each = λ j m v. still_set seen t w at.words g d (tag_of (get_or (cut plens paths) j [])) (at.known.each j m v) }) h
+          known = below_more (λ j. get_or (digits 64 map) j 0 ≡ 0 → Set (set seen (t / 64) w) (tag_of (get_or ps j []))) k
+              (λ j m v. still_set seen t w at.words g d (tag_of (get_or ps j [])) (at.known j m v))
               (λ u. subst (Set (set seen (t / 64) w)) its_number (set_now seen t w at.words g d));
         }
 
@@ -116,3 +118,17 @@ module _ (map k : ℕ) (b : Bool) (e : b ≡ eqb (get_or (digits 64 map) k 0) 1)
 
   pub not_among : k < 64 → b ≡ false → get_or (digits 64 map) k 0 ≡ 0
   not_among h f = digit_zero 64 map k h (eqb-false (get_or (digits 64 map) k 0) 1 (sym e ∙ f))
+
+-- a slot is among those that came again, or it is not
+pub again_or_not : {P : Type 0} (again k : ℕ) → k < 64 → (get_or (digits 64 again) k 0 ≡ 0 → P) → (get_or (digits 64 again) k 0 ≡ 1 → P) → P
+again_or_not {P} again k h f g = go (eqb (get_or (digits 64 again) k 0) 1) refl
+  where
+    go : (b : Bool) → eqb (get_or (digits 64 again) k 0) 1 ≡ b → P
+    go true e = g (eqb-true (get_or (digits 64 again) k 0) 1 e)
+    go false e = f (digit_zero 64 again k h (eqb-false (get_or (digits 64 again) k 0) 1 e))
+
+-- ---- paths that are all good
+
+pub all_pass : (ps : List Bytes) → ((k : ℕ) → k < length ps → good_path (get_or ps k []) ≡ true) → list_all good_path ps ≡ true
+all_pass [] f = refl
+all_pass (p ∷ ps) f = ap (λ (b : Bool). b && list_all good_path ps) (f 0 (omega arith)) ∙ all_pass ps (λ k h. f (suc k) (omega arith))

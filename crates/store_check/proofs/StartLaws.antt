@@ -5,27 +5,22 @@ use mathlib.Core.List.{List, [], ◌∷◌}
 use Prim.Native.Nat.{ℕ, zero, suc, ◌≤◌, ◌<◌}
 use native.Mathlib.Omega.{arith}
 use lib.ListN.{length, get_or}
+use Rattle.std.specs.Prelude.{Option, Some, None, is_some as is_found}
 use Rattle.model.specs.Bytes.{Bytes, same, is_nil}
 use Rattle.model.specs.Map.{find, is_some}
 use Rattle.model.specs.Editor.{at, Cache, start_path}
 use Rattle.model.proofs.Basics.{or_true}
 use Rattle.model.proofs.ByteLaws.{same_refl}
 use Rattle.store_runs.specs.Runs.{Sound}
-use Rattle.store_runs.specs.declared.runs.Found.{Found}
-use Rattle.store_runs.specs.declared.runs.Found.TheVariants.{At, Nothing}
 use Rattle.store_slots.specs.View.{gather, slots_of, SlotIs, path_of}
 use Rattle.store_slots.proofs.Changes.{run_length}
 use Rattle.store_check.specs.Written.{start_fine}
 
 -- ---- a search says whether something is there
 
-abbrev pub is_any : Found → Bool
-is_any (At k) = true
-is_any Nothing = false
-
-pub any_found : (w : ℕ) (ds : List ℕ) (ps bs : List Bytes) (p : Bytes) (f : Found) → SlotIs w ds ps bs p f → is_any f ≡ is_some (find at p (gather (slots_of w ds ps bs)))
-any_found w ds ps bs p (At k) s = sym (ap is_some s.3)
-any_found w ds ps bs p Nothing s = sym (ap is_some s.0)
+pub any_found : (w : ℕ) (ds : List ℕ) (ps bs : List Bytes) (p : Bytes) (f : Option ℕ) → SlotIs w ds ps bs p f → is_found f ≡ is_some (find at p (gather (slots_of w ds ps bs)))
+any_found w ds ps bs p (Some k) s = sym (ap is_some s.3)
+any_found w ds ps bs p None s = sym (ap is_some s.0)
 
 -- ---- the start
 

@@ -14,7 +14,7 @@ use Rattle.store_check.specs.Decides.{Decides}
 use Rattle.store_check.specs.Laid.{Lays}
 use Rattle.store_check.specs.Stored.{Stored}
 use Rattle.store_check.specs.Written.{Written}
-use Rattle.store_check.proofs.Deciding.{refuses, refused}
+use Rattle.store_check.proofs.Deciding.{refuses}
 use Rattle.store_check.proofs.Whole.{valid_parts, valid_good, valid_fits}
 
 module _ (F : Format) (r : Record) (plens paths tlens trees order : List ℕ) where
@@ -50,8 +50,8 @@ module _ (F : Format) (r : Record) (plens paths tlens trees order : List ℕ) wh
       record { ordered = h.ordered; root = and_left R W v; write = and_right R W v }
 
   module _ (w : ℕ) (e : F.width ≡ w) where
-    pub not_laid : {b : Bool} → Decides (Lays w r plens paths tlens trees) b → b ≡ false → Decides (Holds F r plens paths tlens trees order) false
-    not_laid d f = refuses (λ h. refused d f (subst (λ (x : ℕ). Lays x r plens paths tlens trees) e (first_half h)))
+    pub not_laid : (Lays w r plens paths tlens trees → ⊥) → Decides (Holds F r plens paths tlens trees order) false
+    not_laid n = refuses (λ h. n (subst (λ (x : ℕ). Lays x r plens paths tlens trees) e (first_half h)))
 
     pub then_written : {b : Bool} → Lays w r plens paths tlens trees → Decides (Written w r plens paths tlens trees order) b → Decides (Holds F r plens paths tlens trees order) b
     then_written l d =

@@ -2,36 +2,14 @@
 use mathlib.Core.Path.{◌≡◌, refl, sym, ap, ap₂, ◌∙◌}
 use Prim.Native.Nat.{ℕ, suc, ◌+◌, ◌-◌, ◌*◌, ◌/◌, ◌%◌, ◌≤◌, ◌<◌}
 use native.Mathlib.Omega.{arith}
-use lib.ListN.{length, get_or}
+use lib.ListN.{length}
 use Rattle.model.specs.Bytes.{Bytes}
-use Rattle.store_check.specs.Tag.{word_at, turned, joined, by_bytes, by_words}
+use Rattle.store_check.specs.Tag.{word_at, turned, joined, by_words}
 
 -- one word more
 joined_more : (h : ℕ) (f : ℕ → ℕ) (n m : ℕ) → m ≡ suc n → joined h f m ≡ turned (joined h f n) (f n)
 unfolding joined
 joined_more h f n m e = ap (joined h f) e
-
--- the first i bytes, one by one
-pub record Bytewise (p : Bytes) (h i : ℕ) : Type 0 where
-  pub within : i ≤ length p
-  pub made : h ≡ joined (length p % 65536) (λ j. get_or p j 0) i
-
-pub bytes_none : (p : Bytes) → Bytewise p (length p % 65536) 0
-unfolding joined
-bytes_none p = record { within = omega arith; made = refl }
-
-module _ {p : Bytes} {h i : ℕ} (at : Bytewise p h i) where
-  pub bytes_more : (w g : ℕ) → i < length p → w ≡ get_or p i 0 → g ≡ turned h w → Bytewise p g (i + 1)
-  bytes_more w g l e f =
-      record {
-        within = omega arith;
-        made = f ∙ ap₂ turned at.made e ∙ sym (joined_more (length p % 65536) (λ j. get_or p j 0) i (i + 1) (omega arith));
-      }
-
-  pub bytes_all : length p ≤ i → h ≡ by_bytes p
-  bytes_all l =
-      let e : i ≡ length p = omega (arith, at.within) in
-      at.made ∙ ap (joined (length p % 65536) (λ j. get_or p j 0)) e
 
 -- the first i bytes, four by four
 pub record Wordwise (p : Bytes) (h i : ℕ) : Type 0 where

@@ -7,7 +7,7 @@ use Rattle.model.specs.Editor.{fits}
 use Rattle.model.specs.Valid.{all_good}
 use Rattle.names_compact.specs.Compact.{packed_all, unpack}
 use Rattle.store_runs.specs.Digits.{digits}
-use Rattle.store_runs.specs.Runs.{total, Sound}
+use Rattle.store_runs.specs.Runs.{total}
 use Rattle.store_slots.specs.View.{Laid, slots, view_of}
 use Rattle.store_slots.specs.declared.Record.{Record}
 
@@ -21,12 +21,6 @@ pub record Lays (w : ℕ) (r : Record) (plens paths tlens trees : List ℕ) : Ty
 abbrev pub Blank : ℕ → ℕ → ℕ → Type 0
 Blank d n m = (d ≡ 0 → ⊥) → (n ≡ 0) × (m ≡ 0)
 
--- the lengths add up to what is in use, and those of the free slots are 0
-pub record Lengths (r : Record) (plens paths tlens trees : List ℕ) : Type 0 where
-  pub paths_sound : Sound plens paths r.paths
-  pub trees_sound : Sound tlens trees r.trees
-  pub blank : (k : ℕ) → k < 64 → Blank (get_or (digits 64 r.free) k 0) (get_or plens k 0) (get_or tlens k 0)
-
 -- a path is the root's or valid
 abbrev pub good_path : Bytes → Bool
 good_path p = is_nil p || valid_path p
@@ -38,6 +32,10 @@ New ds ps k p = (j : ℕ) → j < k → get_or ds j 0 ≡ 0 → get_or ps j [] �
 -- the slot k, if used, is the first at its path
 abbrev pub First : List ℕ → List Bytes → ℕ → Type 0
 First ds ps k = get_or ds k 0 ≡ 0 → New ds ps k (get_or ps k [])
+
+-- the slot k, if it is one of these and used, is the first at its path
+pub record FirstOf (among : ℕ) (ds : List ℕ) (ps : List Bytes) (k : ℕ) : Type 0 where
+  pub first : get_or (digits 64 among) k 0 ≡ 1 → First ds ps k
 
 -- the paths are good, and those of the used slots different
 pub record Paths (ds : List ℕ) (ps : List Bytes) : Type 0 where

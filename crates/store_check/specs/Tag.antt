@@ -1,5 +1,5 @@
 -- A number below 4,096 for a path, made of all its bytes. Assumes nothing.
-use Rattle.std.specs.Prelude.{ℕ, zero, suc, ◌+◌, ◌-◌, ◌*◌, ◌/◌, ◌%◌, ◌^◌, cond, ltb, leb, length, get_or}
+use Rattle.std.specs.Prelude.{ℕ, zero, suc, ◌+◌, ◌-◌, ◌*◌, ◌/◌, ◌%◌, ◌^◌, cond, ltb, leb, length, get_or, fold}
 use Rattle.std.specs.Int.Bits.{bit_or, bit_xor}
 use Rattle.model.specs.Bytes.{Bytes}
 
@@ -18,7 +18,7 @@ joined h f (suc n) = turned (joined h f n) (f n)
 
 -- the length and the bytes of a path as one word: one by one, by four words, or four by four and then the last four
 abbrev pub by_bytes : Bytes → ℕ
-by_bytes p = joined (length p % 65536) (λ i. get_or p i 0) (length p)
+by_bytes p = fold turned (length p % 65536) p
 
 abbrev pub by_four : Bytes → ℕ
 by_four p =

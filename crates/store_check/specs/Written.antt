@@ -1,5 +1,5 @@
 -- The open write of a store is one that can be: what its functions decide, and the parts of it. Assumes nothing.
-use Rattle.std.specs.Prelude.{◌≡◌, Bool, true, ◌&&◌, ◌||◌, ℕ, ◌≤◌, List, [], ◌∷◌, map, reverse, eqb, ltb, length, take, get_or}
+use Rattle.std.specs.Prelude.{◌≡◌, Option, Some, None, Bool, true, false, ◌&&◌, ◌||◌, ℕ, ◌≤◌, List, [], ◌∷◌, map, reverse, eqb, ltb, length, take, get_or}
 use Rattle.model.specs.Bytes.{Bytes, same, is_nil}
 use Rattle.model.specs.Map.{find, is_some}
 use Rattle.model.specs.Editor.{Held, at, Cache, start_path}
@@ -8,7 +8,6 @@ use Rattle.store_runs.specs.Digits.{digits}
 use Rattle.store_slots.specs.View.{held_at, start_of, editor_of, marked, Opened, Ordered}
 use Rattle.store_slots.specs.declared.Record.{Record}
 use Rattle.store_check.specs.Laid.{Lays}
-use Rattle.store_check.specs.declared.open_write.Marked.{Marked}
 
 -- the write's trees are in slots of their own, the root is cached or the write's start, and the trees hang together
 pub record Written (w : ℕ) (r : Record) (plens paths tlens trees order : List ℕ) : Type 0 where
@@ -30,10 +29,10 @@ unfoldable pub markable : List ℕ → List ℕ → Bool
 markable [] ds = true
 markable (k ∷ ks) ds = markable ks ds && (ltb k (length ds) && eqb (get_or (marked ks ds) k 0) 0)
 
--- what is told of the slots set in a map
-pub record Marks (ks : List ℕ) (before : ℕ) (m : Marked) : Type 0 where
-  pub good : m.good ≡ markable ks (digits 64 before)
-  pub map : m.good ≡ true → digits 64 m.map ≡ marked ks (digits 64 before)
+-- what is told of the slots set in a map: the map then, where they may be set
+abbrev pub Marks : List ℕ → ℕ → Option ℕ → Type 0
+Marks ks before None = markable ks (digits 64 before) ≡ false
+Marks ks before (Some after) = (markable ks (digits 64 before) ≡ true) × (digits 64 after ≡ marked ks (digits 64 before))
 
 -- ---- the trees of the write
 

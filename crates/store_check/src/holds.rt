@@ -1,66 +1,51 @@
 // Whether a record and five lent slices hold an editor: number 13 is for those that do not.
-ghost use Rattle.std.specs.Prelude.{◌≡◌, ◌≤◌, length};
+ghost use Rattle.std.specs.Prelude.{◌≡◌};
 ghost use Rattle.model.specs.Editor.{Format};
 ghost use Rattle.model.specs.Formats.{sha1};
-ghost use Rattle.store_slots.specs.View.{tree_room, Holds};
+ghost use Rattle.store_slots.specs.View.{Holds};
 ghost use Rattle.store_check.specs.Decides.{Decides};
 ghost use Rattle.store_check.specs.Stored.{Stored};
 
+use crate::lent::Lent;
 use names::limits::{PATH_BYTES, SLOTS, TREE_BYTES, WIDTH};
-use store_slots::Record;
+use store_slots::View;
 
 // Whether slices as long as a store hold an editor with ids of this width.
-fn exact(
-    r: Record,
-    plens: &[u64],
-    paths: &[u8],
-    tlens: &[u64],
-    trees: &[u8],
-    order: &[u64],
-    width: usize,
-) -> bool
-    requires { (length plens.now ≡ 64) × (length paths.now ≡ 8192) × (length tlens.now ≡ 64) × (length trees.now ≡ tree_room width) × (length order.now ≡ 64) × (width ≤ 64) }
-    ensures { (F : Format) → F.width ≡ width → Decides (Holds F r plens.now paths.now tlens.now trees.now order.now) result }
+fn exact(s: Lent<'_>) -> bool
+    ensures { (F : Format) → F.width ≡ s.entry.width → Decides (Holds F s.entry.record s.entry.plens.now s.entry.paths.now s.entry.tlens.now s.entry.trees.now s.entry.order.now) result }
 {
-    if !crate::laid::laid(r, plens, paths, tlens, trees, width) {
-        return false;
+    match s.laid() {
+        Some(laid) => laid.write_ok(),
+        None => false,
     }
-    crate::open_write::write_ok(r, plens, paths, tlens, trees, order, width)
 }
 
 // Whether the record and the slices hold an editor with ids of 20 bytes.
-pub fn holds(
-    r: Record,
-    plens: &[u64],
-    paths: &[u8],
-    tlens: &[u64],
-    trees: &[u8],
-    order: &[u64],
-) -> bool
-    ensures { Decides (Stored sha1 r plens.now paths.now tlens.now trees.now order.now) result }
+pub fn holds(v: View<'_>, order: &[u64]) -> bool
+    ensures { Decides (Stored sha1 v.entry.ed v.entry.plens.now v.entry.paths.now v.entry.tlens.now v.entry.trees.now order.now) result }
 {
-    if plens.len() < SLOTS {
+    let View {
+        ed,
+        plens,
+        paths,
+        tlens,
+        trees,
+    } = v;
+    if plens.len() < SLOTS
+        || paths.len() < PATH_BYTES
+        || tlens.len() < SLOTS
+        || trees.len() < TREE_BYTES
+        || order.len() < SLOTS
+    {
         return false;
     }
-    if paths.len() < PATH_BYTES {
-        return false;
-    }
-    if tlens.len() < SLOTS {
-        return false;
-    }
-    if trees.len() < TREE_BYTES {
-        return false;
-    }
-    if order.len() < SLOTS {
-        return false;
-    }
-    exact(
-        r,
-        &plens[..SLOTS],
-        &paths[..PATH_BYTES],
-        &tlens[..SLOTS],
-        &trees[..TREE_BYTES],
-        &order[..SLOTS],
-        WIDTH,
-    )
+    exact(Lent {
+        record: ed,
+        plens: &plens[..SLOTS],
+        paths: &paths[..PATH_BYTES],
+        tlens: &tlens[..SLOTS],
+        trees: &trees[..TREE_BYTES],
+        order: &order[..SLOTS],
+        width: WIDTH,
+    })
 }

@@ -1,262 +1,161 @@
 // Whether a record and the slices of its trees are laid out as they have to be.
-ghost use Rattle.std.specs.Prelude.{◌≡◌, true, [], ℕ, ◌<◌, length, get_or};
+ghost use Rattle.std.specs.Prelude.{◌≡◌, [], ℕ, ◌<◌, get_or, MatchOption};
+ghost use Rattle.std.specs.List.{list_all};
 ghost use Rattle.store_runs.specs.Digits.{digits};
-ghost use Rattle.store_runs.specs.Runs.{cut, Sound};
-ghost use Rattle.store_slots.specs.View.{tree_room};
+ghost use Rattle.store_runs.specs.Runs.{cut};
 ghost use Rattle.store_check.specs.Decides.{Decides};
-ghost use Rattle.store_check.specs.Laid.{Lays, Blank, Lengths, good_path, New, First, Paths, Trees};
+ghost use Rattle.store_check.specs.Laid.{Blank, good_path, New, First, FirstOf, Paths, Trees};
+ghost use Rattle.store_check.specs.Lending.{LaidOut};
 
+use crate::lent::Lent;
+use crate::runs::Runs;
+use crate::tag::tag;
 use names::limits::{ENTRIES, NAME_BYTES, SLOTS};
-use names::tree::Checked;
-use store_slots::Record;
-
-// Whether the lengths add up to the bytes in use, which the slice has.
-fn is_sound(lens: &[u64], bytes: &[u8], used: usize) -> bool
-    ensures { Decides (Sound lens.now bytes.now used) result }
-{
-    if bytes.len() < used {
-        return false;
-    }
-    store_runs::runs::sum_is(lens, used)
-}
-
-// Whether the slot k has the lengths that it may have: none where it is free.
-fn blank(map: u64, k: usize, plens: &[u64], tlens: &[u64]) -> bool
-    requires { (k < 64) × (length plens.now ≡ 64) × (length tlens.now ≡ 64) }
-    ensures { Decides (Blank (get_or (digits 64 map) k 0) (get_or plens.now k 0) (get_or tlens.now k 0)) result }
-{
-    if !store_runs::bits::is_set(map, k) {
-        return true;
-    }
-    if plens[k] != 0 {
-        return false;
-    }
-    tlens[k] == 0
-}
-
-// Whether the free slots have no path and no tree.
-fn blanks(map: u64, plens: &[u64], tlens: &[u64]) -> bool
-    requires { (length plens.now ≡ 64) × (length tlens.now ≡ 64) }
-    ensures { Decides ((k : ℕ) → k < 64 → Blank (get_or (digits 64 map) k 0) (get_or plens.now k 0) (get_or tlens.now k 0)) result }
-{
-    let mut k = 0;
-    while k < SLOTS {
-        if !blank(map, k, plens, tlens) {
-            return false;
-        }
-        k += 1;
-    }
-    true
-}
-
-// Whether the lengths add up, and those of the free slots are 0.
-fn lengths(r: Record, plens: &[u64], paths: &[u8], tlens: &[u64], trees: &[u8]) -> bool
-    requires { (length plens.now ≡ 64) × (length tlens.now ≡ 64) }
-    ensures { Decides (Lengths r plens.now paths.now tlens.now trees.now) result }
-{
-    let map = r.free;
-    let np = r.paths;
-    let nt = r.trees;
-    if !is_sound(plens, paths, np) {
-        return false;
-    }
-    if !is_sound(tlens, trees, nt) {
-        return false;
-    }
-    blanks(map, plens, tlens)
-}
+use names::tree::Size;
+use store_runs::bits;
 
 // Whether a path is the root's or valid.
 fn good_path(path: &[u8]) -> bool
     ensures { result ≡ good_path path.now }
 {
-    if path.len() == 0 {
-        return true;
-    }
-    names::path::valid_path(path)
+    path.is_empty() || names::path::valid_path(path)
 }
 
-// Whether every path is the root's or valid.
-fn good_paths(plens: &[u64], paths: &[u8], used: usize) -> bool
-    requires { Sound plens.now paths.now used × (length plens.now ≡ 64) }
-    ensures { Decides ((k : ℕ) → k < 64 → good_path (get_or (cut plens.now paths.now) k []) ≡ true) result }
-{
-    let mut a: usize = 0;
-    let mut k = 0;
-    while k < SLOTS {
-        let e = a + plens[k] as usize;
-        if !good_path(&paths[a..e]) {
-            return false;
-        }
-        a = e;
-        k += 1;
+// The paths of a store, or its trees.
+impl<'a> Runs<'a> {
+    // Whether every path is the root's or valid.
+    fn good_paths(self) -> bool
+        ensures { result ≡ list_all good_path (cut self.entry.lens.now self.entry.bytes.now) }
+    {
+        self.iter().all(|path| good_path(path))
     }
-    true
-}
 
-// Whether no used slot before the slot k is at the path.
-fn is_new(map: u64, plens: &[u64], paths: &[u8], used: usize, k: usize, path: &[u8]) -> bool
-    requires { Sound plens.now paths.now used × (length plens.now ≡ 64) × (k < 64) }
-    ensures { Decides (New (digits 64 map) (cut plens.now paths.now) k path.now) result }
-{
-    let mut a: usize = 0;
-    let mut j = 0;
-    while j < k {
-        let n = plens[j] as usize;
-        if store_runs::runs::is_at(map, paths, j, a, n, path) {
-            return false;
-        }
-        a += n;
-        j += 1;
-    }
-    true
-}
-
-// Whether the slot k, if used, is the first at its path.
-fn is_first(map: u64, plens: &[u64], paths: &[u8], used: usize, k: usize, path: &[u8]) -> bool
-    requires { Sound plens.now paths.now used × (length plens.now ≡ 64) × (k < 64) × (path.now ≡ get_or (cut plens.now paths.now) k []) }
-    ensures { Decides (First (digits 64 map) (cut plens.now paths.now) k) result }
-{
-    if store_runs::bits::is_set(map, k) {
-        return true;
-    }
-    is_new(map, plens, paths, used, k, path)
-}
-
-// The slots whose paths have a number that came before: every other one, if used, is the first at its path.
-fn repeated(map: u64, plens: &[u64], paths: &[u8], used: usize) -> u64
-    requires { Sound plens.now paths.now used × (length plens.now ≡ 64) }
-    ensures { (k : ℕ) → k < 64 → get_or (digits 64 result) k 0 ≡ 0 → First (digits 64 map) (cut plens.now paths.now) k }
-{
-    let mut seen = [0u64; 64];
-    let mut again: u64 = 0;
-    let mut a: usize = 0;
-    let mut k = 0;
-    while k < SLOTS {
-        let e = a + plens[k] as usize;
-        if !store_runs::bits::is_set(map, k) {
-            let t = crate::tag::tag(&paths[a..e]);
-            let w = seen[t / 64];
-            if store_runs::bits::is_set(w, t % 64) {
-                again = store_runs::bits::set(again, k);
-            } else {
-                seen[t / 64] = store_runs::bits::set(w, t % 64);
-            }
-        }
-        a = e;
-        k += 1;
-    }
-    again
-}
-
-// Whether the paths of the used slots are different. Only a path with a number that came before is held against the earlier ones.
-fn apart(map: u64, plens: &[u64], paths: &[u8], used: usize) -> bool
-    requires { Sound plens.now paths.now used × (length plens.now ≡ 64) }
-    ensures { Decides ((k : ℕ) → k < 64 → First (digits 64 map) (cut plens.now paths.now) k) result }
-{
-    let again = repeated(map, plens, paths, used);
-    if again == 0 {
-        return true;
-    }
-    let mut a: usize = 0;
-    let mut k = 0;
-    while k < SLOTS {
-        let e = a + plens[k] as usize;
-        if store_runs::bits::is_set(again, k) {
-            if !is_first(map, plens, paths, used, k, &paths[a..e]) {
+    // Whether no used slot before the slot k is at the path.
+    fn is_new(self, map: u64, k: usize, path: &[u8]) -> bool
+        requires { k < 64 }
+        ensures { Decides (New (digits 64 map) (cut self.entry.lens.now self.entry.bytes.now) k path.now) result }
+    {
+        for (j, there) in (0..k).zip(self.iter()) {
+            if !bits::is_set(map, j) && names::order::same_bytes(there, path) {
                 return false;
             }
         }
-        a = e;
-        k += 1;
+        true
     }
-    true
-}
 
-// Whether the paths are good, and those of the used slots different.
-fn paths_good(map: u64, plens: &[u64], paths: &[u8], used: usize) -> bool
-    requires { Sound plens.now paths.now used × (length plens.now ≡ 64) }
-    ensures { Decides (Paths (digits 64 map) (cut plens.now paths.now)) result }
-{
-    if !good_paths(plens, paths, used) {
-        return false;
+    // Whether the slot k, if it is one of these and used, is the first at its path.
+    fn is_first(self, map: u64, among: u64, k: usize) -> bool
+        requires { k < 64 }
+        ensures { Decides (FirstOf among (digits 64 map) (cut self.entry.lens.now self.entry.bytes.now) k) result }
+    {
+        !bits::is_set(among, k) || bits::is_set(map, k) || self.is_new(map, k, self.run(k))
     }
-    apart(map, plens, paths, used)
-}
 
-// Whether each tree is well formed, and there are so many entries and name bytes in all.
-fn trees_good(
-    tlens: &[u64],
-    trees: &[u8],
-    used: usize,
-    width: usize,
-    all_entries: usize,
-    all_names: usize,
-) -> bool
-    requires { Sound tlens.now trees.now used × (length tlens.now ≡ 64) }
-    ensures { Decides (Trees width (cut tlens.now trees.now) all_entries all_names) result }
-{
-    let mut es = all_entries;
-    let mut ns = all_names;
-    let mut a: usize = 0;
-    let mut k = 0;
-    while k < SLOTS {
-        let e = a + tlens[k] as usize;
-        match names_compact::judge::judge(&trees[a..e], width) {
-            Checked::WellFormed {
-                entries,
-                name_bytes,
-            } => {
-                if es < entries {
-                    return false;
+    // Whether each of these slots, if used, is the first at its path.
+    fn all_first(self, map: u64, among: u64) -> bool
+        ensures { Decides ((k : ℕ) → k < 64 → FirstOf among (digits 64 map) (cut self.entry.lens.now self.entry.bytes.now) k) result }
+    {
+        (0..SLOTS).all(|k| self.is_first(map, among, k))
+    }
+
+    // The slots whose paths have a number that came before: every other one, if used, is the first at its path.
+    fn repeated(self, map: u64) -> u64
+        ensures { (k : ℕ) → k < 64 → get_or (digits 64 result) k 0 ≡ 0 → First (digits 64 map) (cut self.entry.lens.now self.entry.bytes.now) k }
+    {
+        let mut seen = [0u64; SLOTS];
+        let mut again: u64 = 0;
+        for (k, path) in (0..SLOTS).zip(self.iter()) {
+            if !bits::is_set(map, k) {
+                let t = tag(path);
+                let w = seen[t / 64];
+                if bits::is_set(w, t % 64) {
+                    again = bits::set(again, k);
+                } else {
+                    seen[t / 64] = bits::set(w, t % 64);
                 }
-                if ns < name_bytes {
-                    return false;
-                }
-                es -= entries;
-                ns -= name_bytes;
-            }
-            Checked::Broken => {
-                return false;
             }
         }
-        a = e;
-        k += 1;
+        again
     }
-    if es != 0 {
-        return false;
+
+    // Whether the paths of the used slots are different. Only a path with a number that came before is held against the earlier ones.
+    fn apart(self, map: u64) -> bool
+        ensures { Decides ((k : ℕ) → k < 64 → First (digits 64 map) (cut self.entry.lens.now self.entry.bytes.now) k) result }
+    {
+        let again = self.repeated(map);
+        again == 0 || self.all_first(map, again)
     }
-    ns == 0
+
+    // Whether the paths are good, and those of the used slots different.
+    fn paths_good(self, map: u64) -> bool
+        ensures { Decides (Paths (digits 64 map) (cut self.entry.lens.now self.entry.bytes.now)) result }
+    {
+        self.good_paths() && self.apart(map)
+    }
+
+    // Whether each tree is well formed, and there are so many entries and name bytes in all.
+    fn trees_good(self, width: usize, all: Size) -> bool
+        ensures { Decides (Trees width (cut self.entry.lens.now self.entry.bytes.now) all.entries all.name_bytes) result }
+    {
+        let mut left = all;
+        for tree in self.iter() {
+            let Some(size) = names_compact::judge::judge(tree, width) else {
+                return false;
+            };
+            if left.entries < size.entries || left.name_bytes < size.name_bytes {
+                return false;
+            }
+            left = Size {
+                entries: left.entries - size.entries,
+                name_bytes: left.name_bytes - size.name_bytes,
+            };
+        }
+        left.entries == 0 && left.name_bytes == 0
+    }
 }
 
-// Whether the trees are laid out as the record says, well formed and within the limits, and their paths different and valid.
-pub fn laid(
-    r: Record,
-    plens: &[u64],
-    paths: &[u8],
-    tlens: &[u64],
-    trees: &[u8],
-    width: usize,
-) -> bool
-    requires { (length plens.now ≡ 64) × (length paths.now ≡ 8192) × (length tlens.now ≡ 64) × (length trees.now ≡ tree_room width) }
-    ensures { Decides (Lays width r plens.now paths.now tlens.now trees.now) result }
-{
-    let es = r.entries;
-    let ns = r.names;
-    let np = r.paths;
-    let nt = r.trees;
-    let map = r.free;
-    if ENTRIES < es {
-        return false;
+// A store whose trees are laid out as they have to be: well formed and within the limits, and their paths different and valid.
+#[derive(Clone, Copy)]
+pub struct Laid<'a> {
+    pub store: Lent<'a>,
+    ghost laid: { LaidOut store },
+}
+
+impl<'a> Lent<'a> {
+    // Whether the slot k has the lengths that it may have: none where it is free.
+    fn blank(self, k: usize) -> bool
+        requires { k < 64 }
+        ensures { Decides (Blank (get_or (digits 64 self.entry.record.free) k 0) (get_or self.entry.plens.now k 0) (get_or self.entry.tlens.now k 0)) result }
+    {
+        !bits::is_set(self.record.free, k) || (self.plens[k] == 0 && self.tlens[k] == 0)
     }
-    if NAME_BYTES < ns {
-        return false;
+
+    // Whether the free slots have no path and no tree.
+    fn blanks(self) -> bool
+        ensures { Decides ((k : ℕ) → k < 64 → Blank (get_or (digits 64 self.entry.record.free) k 0) (get_or self.entry.plens.now k 0) (get_or self.entry.tlens.now k 0)) result }
+    {
+        (0..SLOTS).all(|k| self.blank(k))
     }
-    if !lengths(r, plens, paths, tlens, trees) {
-        return false;
+
+    // The store as one that is laid out as it has to be, if it is.
+    pub fn laid(self) -> Option<Laid<'a>>
+        ensures { MatchOption result (LaidOut self.entry → ⊥) (λ s. s.store ≡ self.entry) }
+    {
+        let r = self.record;
+        let paths = Runs::of(self.plens, self.paths, r.paths)?;
+        let trees = Runs::of(self.tlens, self.trees, r.trees)?;
+        let all = Size {
+            entries: r.entries,
+            name_bytes: r.names,
+        };
+        if ENTRIES < r.entries
+            || NAME_BYTES < r.names
+            || !self.blanks()
+            || !trees.trees_good(self.width, all)
+            || !paths.paths_good(r.free)
+        {
+            return None;
+        }
+        Some(Laid { store: self })
     }
-    if !trees_good(tlens, trees, nt, width, es, ns) {
-        return false;
-    }
-    paths_good(map, plens, paths, np)
 }

@@ -3,6 +3,8 @@
 
 pub mod holds;
 pub mod laid;
+pub mod lent;
 pub mod open_write;
 mod parents;
+mod runs;
 mod tag;

@@ -2,39 +2,28 @@
 ghost use Rattle.std.specs.Prelude.{◌≡◌, ◌+◌, ◌≤◌, ◌<◌, length};
 ghost use Rattle.store_check.specs.Tag.{word_at, turned, by_bytes, by_four, by_words, spread_of, tag_of};
 
-// A byte as a word.
-fn wide(b: u8) -> u32
-    ensures { (result ≡ b) × (b < 256) }
-{
-    b as u32
-}
-
 // The word of four bytes, the lowest first.
 fn word_at(s: &[u8], at: usize) -> u32
     requires { at + 4 ≤ length s.now }
     ensures { result ≡ word_at s.now at }
 {
-    wide(s[at]) + wide(s[at + 1]) * 256 + wide(s[at + 2]) * 65536 + wide(s[at + 3]) * 16777216
+    u32::from_le_bytes([s[at], s[at + 1], s[at + 2], s[at + 3]])
 }
 
 // A word turned by five bits, and another added bit by bit.
 fn rotate_xor(h: u32, w: u32) -> u32
     ensures { result ≡ turned h w }
 {
-    ((h << 5) | (h >> 27)) ^ w
+    h.rotate_left(5) ^ w
 }
 
 // The length and the bytes of a path, one by one, as one word.
 fn by_bytes(path: &[u8]) -> u32
     ensures { result ≡ by_bytes path.now }
 {
-    let mut h = (path.len() % 65536) as u32;
-    let mut i = 0;
-    while i < path.len() {
-        h = rotate_xor(h, wide(path[i]));
-        i += 1;
-    }
-    h
+    let length = (path.len() % 65536) as u32;
+    path.iter()
+        .fold(length, |h, b| rotate_xor(h, u32::from(*b)))
 }
 
 // The length and the bytes of a path of 4 to 16, as one word: four words have them all.
@@ -59,10 +48,8 @@ fn by_words(path: &[u8]) -> u32
 {
     let last = path.len() - 4;
     let mut h = (path.len() % 65536) as u32;
-    let mut i = 0;
-    while i < last {
+    for i in (0..last).step_by(4) {
         h = rotate_xor(h, word_at(path, i));
-        i += 4;
     }
     rotate_xor(h, word_at(path, last))
 }
@@ -71,18 +58,16 @@ fn by_words(path: &[u8]) -> u32
 fn spread(h: u32) -> usize
     ensures { result ≡ spread_of h }
 {
-    (h as u64 * 3266489909 / 1048576 % 4096) as usize
+    (u64::from(h) * 3266489909 / 1048576 % 4096) as usize
 }
 
 // The number of a path.
 pub fn tag(path: &[u8]) -> usize
     ensures { (result ≡ tag_of path.now) × (result < 4096) }
 {
-    if path.len() < 4 {
-        return spread(by_bytes(path));
-    }
-    if path.len() <= 16 {
-        return spread(by_four(path));
-    }
-    spread(by_words(path))
+    spread(match path.len() {
+        0..4 => by_bytes(path),
+        4..=16 => by_four(path),
+        _ => by_words(path),
+    })
 }

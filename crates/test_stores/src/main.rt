@@ -5,6 +5,7 @@
 mod input;
 mod words;
 
+use input::Room;
 use std::io;
 
 fn main(rt: HostRuntime) -> io::Result<()> {
@@ -13,13 +14,12 @@ fn main(rt: HostRuntime) -> io::Result<()> {
     let mut tlens = [0u64; 128];
     let mut trees = [0u8; 39424];
     let mut order = [0u64; 128];
-    input::run(
-        &rt,
-        &mut rt.stdin(),
-        &mut plens,
-        &mut paths,
-        &mut tlens,
-        &mut trees,
-        &mut order,
-    )
+    let mut room = Room {
+        plens: &mut plens,
+        paths: &mut paths,
+        tlens: &mut tlens,
+        trees: &mut trees,
+        order: &mut order,
+    };
+    input::run(&rt, &mut rt.stdin(), &mut room)
 }

@@ -1,11 +1,7 @@
 -- `editor_walk::apply::apply` meets its contract, by the turns. Assumes nothing.
-use mathlib.Core.Path.{sym, ap, ◌∙◌, subst}
+use mathlib.Core.Logic.{inl, inr}
+use mathlib.Core.Path.{sym, ap, subst}
 use native.Mathlib.Omega.{arith}
-use Rattle.model.specs.Bytes.{Bytes}
-use Rattle.model.specs.Map.{put}
-use Rattle.model.specs.Tree.{with_entry}
-use Rattle.model.specs.Editor.{at, fits, ◌↝◌}
-use Rattle.names.specs.Answers.{entry}
 use Rattle.store_slots.specs.View.{view_of, path_of, tree_of}
 use Rattle.store_entries.proofs.EditLaws.{unchanged, edited_same}
 use Rattle.editor_terms.specs.Edits.{changed}
@@ -23,13 +19,16 @@ set-requires c =
       c.requires.1,
       search rules,
       c.requires.2,
-      ap (λ (i : Bytes). fits (put at ((path_of a.plens.now a.paths.now a.slot) ↝ with_entry (entry c.in-Put.kind a.name.now i) (tree_of 20 a.tlens.now a.trees.now a.slot)) (view_of 20 a.ed a.plens.now a.paths.now a.tlens.now a.trees.now))) c.bytes-b.ensures ∙ f,
+      f,
     )
 
 pub returns-in-Stop : goal.returns-in-Stop
 returns-in-Stop c =
     let a = c.args in
-    unchanged 20 a.ed a.plens.now a.paths.now a.tlens.now a.trees.now c.requires.0 a.slot c.requires.1 (changed a.turn a.name.now (tree_of 20 a.tlens.now a.trees.now a.slot)) (ap (λ (z : Turn). changed z a.name.now (tree_of 20 a.tlens.now a.trees.now a.slot)) c.in-Stop.is)
+    elim c.in-Stop.is [
+      | inl x ↦ unchanged c.requires.0 c.requires.1 (changed a.turn a.name.now (tree_of 20 a.tlens.now a.trees.now a.slot)) (ap (λ (z : Turn). changed z a.name.now (tree_of 20 a.tlens.now a.trees.now a.slot)) x.1)
+      | inr x ↦ unchanged c.requires.0 c.requires.1 (changed a.turn a.name.now (tree_of 20 a.tlens.now a.trees.now a.slot)) (ap (λ (z : Turn). changed z a.name.now (tree_of 20 a.tlens.now a.trees.now a.slot)) x.1)
+    ]
 
 pub returns-in-Cut : goal.returns-in-Cut
 returns-in-Cut c =
@@ -39,9 +38,4 @@ returns-in-Cut c =
 pub returns-in-Put : goal.returns-in-Put
 returns-in-Put c =
     let a = c.args in
-    edited_same c.set.ensures (changed a.turn a.name.now (tree_of 20 a.tlens.now a.trees.now a.slot)) (ap (λ (i : Bytes). with_entry (entry c.in-Put.kind a.name.now i) (tree_of 20 a.tlens.now a.trees.now a.slot)) c.bytes-b.ensures ∙ sym (ap (λ (z : Turn). changed z a.name.now (tree_of 20 a.tlens.now a.trees.now a.slot)) c.in-Put.is))
-
-pub returns-in-Down : goal.returns-in-Down
-returns-in-Down c =
-    let a = c.args in
-    unchanged 20 a.ed a.plens.now a.paths.now a.tlens.now a.trees.now c.requires.0 a.slot c.requires.1 (changed a.turn a.name.now (tree_of 20 a.tlens.now a.trees.now a.slot)) (ap (λ (z : Turn). changed z a.name.now (tree_of 20 a.tlens.now a.trees.now a.slot)) c.in-Down.is)
+    edited_same c.set.ensures (changed a.turn a.name.now (tree_of 20 a.tlens.now a.trees.now a.slot)) (sym (ap (λ (z : Turn). changed z a.name.now (tree_of 20 a.tlens.now a.trees.now a.slot)) c.in-Put.is))

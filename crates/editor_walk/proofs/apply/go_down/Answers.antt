@@ -16,13 +16,13 @@ use Rattle.editor_walk.proofs.apply.go_down.Goals as goal
 pub descend-requires : goal.descend-requires
 descend-requires c =
     let a = c.args in
-    let l : LandsAs a.raws.now (planned sha1 (table_of a.ids.now a.ends.now a.raws.now) (is_leaf_removal (as_edit a.edit)) (wanted_by a.turn)) (digits 64 a.ed.hidden) (cut a.plens.now a.paths.now) a.below.now c.land-landing.result =
-    subst (λ (z : Plan). LandsAs a.raws.now z (digits 64 a.ed.hidden) (cut a.plens.now a.paths.now) a.below.now c.land-landing.result) (ap₂ (λ (b : Bool) (i : Option Bytes). planned sha1 (table_of a.ids.now a.ends.now a.raws.now) b i) c.is_leaf_removal-leaf.ensures c.wanted_by-wanted.ensures) c.land-landing.ensures in
-    (c.requires.0, c.requires.1, land_fits (table_of a.ids.now a.ends.now a.raws.now) (as_edit a.edit) (wanted_by a.turn) c.requires.0 c.requires.1 a.raws.now a.below.now c.land-landing.result l c.requires.3)
+    let l : LandsAs (planned sha1 (table_of a.ids.now a.ends.now a.raws.now) (is_leaf_removal (as_edit a.edit)) (wanted_by a.turn)) (digits 64 a.ed.hidden) (cut a.plens.now a.paths.now) a.below.now c.land-landing.result =
+    subst (λ (z : Plan). LandsAs z (digits 64 a.ed.hidden) (cut a.plens.now a.paths.now) a.below.now c.land-landing.result) (ap₂ (λ (b : Bool) (i : Option Bytes). planned sha1 (table_of a.ids.now a.ends.now a.raws.now) b i) c.is_leaf_removal-leaf.ensures c.wanted-wanted.ensures) c.land-landing.ensures in
+    (c.requires.0, c.requires.1, land_fits (table_of a.ids.now a.ends.now a.raws.now) (as_edit a.edit) (wanted_by a.turn) c.requires.0 c.requires.1 a.below.now c.land-landing.result l c.requires.3)
 
 pub returns : goal.returns
 returns c =
     let a = c.args in
-    let l : LandsAs a.raws.now (planned sha1 (table_of a.ids.now a.ends.now a.raws.now) (is_leaf_removal (as_edit a.edit)) (wanted_by a.turn)) (digits 64 a.ed.hidden) (cut a.plens.now a.paths.now) a.below.now c.land-landing.result =
-    subst (λ (z : Plan). LandsAs a.raws.now z (digits 64 a.ed.hidden) (cut a.plens.now a.paths.now) a.below.now c.land-landing.result) (ap₂ (λ (b : Bool) (i : Option Bytes). planned sha1 (table_of a.ids.now a.ends.now a.raws.now) b i) c.is_leaf_removal-leaf.ensures c.wanted_by-wanted.ensures) c.land-landing.ensures in
-    stepped_down (table_of a.ids.now a.ends.now a.raws.now) (as_edit a.edit) (wanted_by a.turn) c.requires.0 c.requires.1 a.raws.now a.below.now c.descend.result _ _ _ _ c.land-landing.result l c.descend.ensures
+    let l : LandsAs (planned sha1 (table_of a.ids.now a.ends.now a.raws.now) (is_leaf_removal (as_edit a.edit)) (wanted_by a.turn)) (digits 64 a.ed.hidden) (cut a.plens.now a.paths.now) a.below.now c.land-landing.result =
+    subst (λ (z : Plan). LandsAs z (digits 64 a.ed.hidden) (cut a.plens.now a.paths.now) a.below.now c.land-landing.result) (ap₂ (λ (b : Bool) (i : Option Bytes). planned sha1 (table_of a.ids.now a.ends.now a.raws.now) b i) c.is_leaf_removal-leaf.ensures c.wanted-wanted.ensures) c.land-landing.ensures in
+    stepped_down (table_of a.ids.now a.ends.now a.raws.now) (as_edit a.edit) (wanted_by a.turn) c.requires.0 c.requires.1 a.below.now c.descend.result _ _ _ _ c.land-landing.result l c.descend.ensures

@@ -6,5 +6,5 @@ use Rattle.editor_terms.specs.Edits.{looks}
 use Rattle.editor_terms.specs.declared.edit.Edit.{Edit}
 use Rattle.editor_walk.proofs.apply.seen_for.Goals as goal
 
-pub returns-then-last : goal.returns-then-last
-returns-then-last c = λ h. no_way (sym h ∙ ap₂ (λ (e : Edit) (b : Bool). looks e b) c.in-Upsert.is c.if-last.true)
+pub returns-in-Upsert : goal.returns-in-Upsert
+returns-in-Upsert c = λ h. no_way (sym h ∙ ap₂ (λ (e : Edit) (b : Bool). looks e b) c.in-Upsert.is c.if-last.true)

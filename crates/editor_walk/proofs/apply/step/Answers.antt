@@ -27,23 +27,23 @@ seen_for-seen-requires c =
 pub apply-e-requires : goal.apply-e-requires
 apply-e-requires c =
     let a = c.args in
-    (c.requires.0, c.requires.2, c.requires.4 c.if-name-eq0.false, turn_fits (table_of a.ids.now a.ends.now a.raws.now) a.edit a.opening a.last a.below.now a.name.now a.ed a.plens.now a.paths.now a.tlens.now a.trees.now c.requires.0 c.requires.1 a.slot c.requires.2 c.seen_for-seen.result c.turn_of-turn.result c.turn_of-turn.ensures (λ h. c.seen_for-seen.ensures h ∙ ap (λ (z : Tree). parts_of (entry_of a.name.now z)) (ap (unpack 20) c.tree_in.ensures ∙ tree_run 20 a.ed a.plens.now a.paths.now a.tlens.now a.trees.now c.requires.0 a.slot c.requires.2.low)) c.if-name-eq0.false c.requires.5)
+    (c.requires.0, c.requires.2, c.requires.4 c.if-name-eq0.false, turn_fits (table_of a.ids.now a.ends.now a.raws.now) a.edit a.opening a.last a.below.now a.name.now a.ed a.plens.now a.paths.now a.tlens.now a.trees.now c.requires.0 c.requires.1 a.slot c.requires.2 c.seen_for-seen.result c.turn-turn.result c.turn-turn.ensures (λ h. c.seen_for-seen.ensures h ∙ ap (λ (z : Tree). parts_of (entry_of a.name.now z)) (ap (unpack 20) c.tree_in.ensures ∙ tree_run 20 a.ed a.plens.now a.paths.now a.tlens.now a.trees.now c.requires.0 a.slot c.requires.2.low)) c.if-name-eq0.false c.requires.5)
 
 pub returns-then-not-goes_down : goal.returns-then-not-goes_down
 returns-then-not-goes_down c =
     let a = c.args in
-    step_stop (table_of a.ids.now a.ends.now a.raws.now) a.edit a.opening a.last a.below.now a.name.now a.ed a.plens.now a.paths.now a.tlens.now a.trees.now c.requires.0 c.requires.1 a.slot c.requires.2 c.seen_for-seen.result c.turn_of-turn.result c.turn_of-turn.ensures (λ h. c.seen_for-seen.ensures h ∙ ap (λ (z : Tree). parts_of (entry_of a.name.now z)) (ap (unpack 20) c.tree_in.ensures ∙ tree_run 20 a.ed a.plens.now a.paths.now a.tlens.now a.trees.now c.requires.0 a.slot c.requires.2.low)) c.if-name-eq0.false c.apply-e.ensures (sym (c.goes_down.ensures a.name.now (tree_of 20 a.tlens.now a.trees.now a.slot)) ∙ not_true _ c.if-not-goes_down.true-raw) c.end_code-code.ensures
+    step_stop (table_of a.ids.now a.ends.now a.raws.now) a.edit a.opening a.last a.below.now a.name.now a.ed a.plens.now a.paths.now a.tlens.now a.trees.now c.requires.0 c.requires.1 a.slot c.requires.2 c.seen_for-seen.result c.turn-turn.result c.turn-turn.ensures (λ h. c.seen_for-seen.ensures h ∙ ap (λ (z : Tree). parts_of (entry_of a.name.now z)) (ap (unpack 20) c.tree_in.ensures ∙ tree_run 20 a.ed a.plens.now a.paths.now a.tlens.now a.trees.now c.requires.0 a.slot c.requires.2.low)) c.if-name-eq0.false c.apply-e.ensures (sym (c.goes_down.ensures a.name.now (tree_of 20 a.tlens.now a.trees.now a.slot)) ∙ not_true _ c.if-not-goes_down.true-raw) c.end_code.ensures
 
 pub go_down-requires : goal.go_down-requires
 go_down-requires c =
     let a = c.args in (
       c.apply-e.ensures.laid,
-      still_closed (table_of a.ids.now a.ends.now a.raws.now) a.edit a.opening a.last a.below.now a.name.now a.ed a.plens.now a.paths.now a.tlens.now a.trees.now c.requires.0 c.requires.1 a.slot c.requires.2 c.seen_for-seen.result c.turn_of-turn.result c.turn_of-turn.ensures (λ h. c.seen_for-seen.ensures h ∙ ap (λ (z : Tree). parts_of (entry_of a.name.now z)) (ap (unpack 20) c.tree_in.ensures ∙ tree_run 20 a.ed a.plens.now a.paths.now a.tlens.now a.trees.now c.requires.0 a.slot c.requires.2.low)) c.if-name-eq0.false c.apply-e.ensures,
+      still_closed (table_of a.ids.now a.ends.now a.raws.now) a.edit a.opening a.last a.below.now a.name.now a.ed a.plens.now a.paths.now a.tlens.now a.trees.now c.requires.0 c.requires.1 a.slot c.requires.2 c.seen_for-seen.result c.turn-turn.result c.turn-turn.ensures (λ h. c.seen_for-seen.ensures h ∙ ap (λ (z : Tree). parts_of (entry_of a.name.now z)) (ap (unpack 20) c.tree_in.ensures ∙ tree_run 20 a.ed a.plens.now a.paths.now a.tlens.now a.trees.now c.requires.0 a.slot c.requires.2.low)) c.if-name-eq0.false c.apply-e.ensures,
       c.requires.3,
-      down_fits (table_of a.ids.now a.ends.now a.raws.now) a.edit a.opening a.last a.below.now a.name.now a.ed a.plens.now a.paths.now a.tlens.now a.trees.now c.requires.0 c.requires.1 a.slot c.requires.2 c.seen_for-seen.result c.turn_of-turn.result c.turn_of-turn.ensures (λ h. c.seen_for-seen.ensures h ∙ ap (λ (z : Tree). parts_of (entry_of a.name.now z)) (ap (unpack 20) c.tree_in.ensures ∙ tree_run 20 a.ed a.plens.now a.paths.now a.tlens.now a.trees.now c.requires.0 a.slot c.requires.2.low)) c.if-name-eq0.false c.apply-e.ensures (sym (c.goes_down.ensures a.name.now (tree_of 20 a.tlens.now a.trees.now a.slot)) ∙ not_false _ c.if-not-goes_down.false-raw) c.requires.5,
+      down_fits (table_of a.ids.now a.ends.now a.raws.now) a.edit a.opening a.last a.below.now a.name.now a.ed a.plens.now a.paths.now a.tlens.now a.trees.now c.requires.0 c.requires.1 a.slot c.requires.2 c.seen_for-seen.result c.turn-turn.result c.turn-turn.ensures (λ h. c.seen_for-seen.ensures h ∙ ap (λ (z : Tree). parts_of (entry_of a.name.now z)) (ap (unpack 20) c.tree_in.ensures ∙ tree_run 20 a.ed a.plens.now a.paths.now a.tlens.now a.trees.now c.requires.0 a.slot c.requires.2.low)) c.if-name-eq0.false c.apply-e.ensures (sym (c.goes_down.ensures a.name.now (tree_of 20 a.tlens.now a.trees.now a.slot)) ∙ not_false _ c.if-not-goes_down.false-raw) c.requires.5,
     )
 
 pub returns : goal.returns
 returns c =
     let a = c.args in
-    step_on (table_of a.ids.now a.ends.now a.raws.now) a.edit a.opening a.last a.below.now a.name.now a.ed a.plens.now a.paths.now a.tlens.now a.trees.now c.requires.0 c.requires.1 a.slot c.requires.2 c.seen_for-seen.result c.turn_of-turn.result c.turn_of-turn.ensures (λ h. c.seen_for-seen.ensures h ∙ ap (λ (z : Tree). parts_of (entry_of a.name.now z)) (ap (unpack 20) c.tree_in.ensures ∙ tree_run 20 a.ed a.plens.now a.paths.now a.tlens.now a.trees.now c.requires.0 a.slot c.requires.2.low)) c.if-name-eq0.false c.apply-e.ensures (sym (c.goes_down.ensures a.name.now (tree_of 20 a.tlens.now a.trees.now a.slot)) ∙ not_false _ c.if-not-goes_down.false-raw) c.go_down.ensures
+    step_on (table_of a.ids.now a.ends.now a.raws.now) a.edit a.opening a.last a.below.now a.name.now a.ed a.plens.now a.paths.now a.tlens.now a.trees.now c.requires.0 c.requires.1 a.slot c.requires.2 c.seen_for-seen.result c.turn-turn.result c.turn-turn.ensures (λ h. c.seen_for-seen.ensures h ∙ ap (λ (z : Tree). parts_of (entry_of a.name.now z)) (ap (unpack 20) c.tree_in.ensures ∙ tree_run 20 a.ed a.plens.now a.paths.now a.tlens.now a.trees.now c.requires.0 a.slot c.requires.2.low)) c.if-name-eq0.false c.apply-e.ensures (sym (c.goes_down.ensures a.name.now (tree_of 20 a.tlens.now a.trees.now a.slot)) ∙ not_false _ c.if-not-goes_down.false-raw) c.go_down.ensures

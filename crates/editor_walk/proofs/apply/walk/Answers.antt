@@ -54,7 +54,7 @@ returns-then-is_over c = walk_over c.loop-p.invariant c.component_len-k.ensures 
 pub loop-p-smaller : goal.loop-p-smaller
 loop-p-smaller c =
     let d = walk_shorter c.loop-p.invariant c.component_len-k.ensures refl refl c.front-below.ensures c.front-name.ensures c.step-s.ensures (sym c.is_over.ensures ∙ c.if-is_over.false) in
-    omega (arith, d, ap length c.tail-rest.ensures, length-drop (c.component_len-k.result + 1) c.loop-p.p.now)
+    omega (arith, d, ap length c.tail-p.ensures, length-drop (c.component_len-k.result + 1) c.loop-p.p.now)
 
 pub loop-p-preserved : goal.loop-p-preserved
-loop-p-preserved c = walk_next c.loop-p.invariant c.component_len-k.ensures refl refl c.front-below.ensures c.front-name.ensures c.step-s.ensures (sym c.is_over.ensures ∙ c.if-is_over.false) c.tail-rest.ensures
+loop-p-preserved c = walk_next c.loop-p.invariant c.component_len-k.ensures refl refl c.front-below.ensures c.front-name.ensures c.step-s.ensures (sym c.is_over.ensures ∙ c.if-is_over.false) c.tail-p.ensures

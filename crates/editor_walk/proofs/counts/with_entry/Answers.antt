@@ -3,6 +3,7 @@ use mathlib.Core.Path.{sym, ap, ◌∙◌}
 use native.Mathlib.Omega.{arith}
 use Rattle.model.proofs.LimitLaws.{roomy}
 use Rattle.editor_terms.specs.Edits.{put_counts}
+use Rattle.std.specs.Prelude.{Option}
 use Rattle.editor_terms.specs.declared.edit.Seen.{Seen}
 use Rattle.editor_walk.specs.Counted.{counts_as}
 use Rattle.editor_walk.proofs.CountLaws.{plus_name_lem}
@@ -13,17 +14,17 @@ overflow_add-result c =
     let r = roomy (counts_as c.args.u) c.requires.0 in
     omega (arith, r.entries)
 
-pub overflow_add-result-in-Nothing : goal.overflow_add-result-in-Nothing
-overflow_add-result-in-Nothing c =
+pub overflow_add-result-in-None : goal.overflow_add-result-in-None
+overflow_add-result-in-None c =
     let r = roomy (counts_as c.args.u) c.requires.0 in
     omega (arith, r.names, c.requires.1)
 
-pub returns-in-Entry : goal.returns-in-Entry
-returns-in-Entry c =
+pub returns-in-Some : goal.returns-in-Some
+returns-in-Some c =
     let a = c.args in
-    λ name e. sym (ap (λ (z : Seen). put_counts z name (counts_as a.u)) c.in-Entry.is)
+    λ name e. sym (ap (λ (z : Option Seen). put_counts z name (counts_as a.u)) c.in-Some.is)
 
-pub returns-in-Nothing : goal.returns-in-Nothing
-returns-in-Nothing c =
+pub returns-in-None : goal.returns-in-None
+returns-in-None c =
     let a = c.args in
-    λ name e. plus_name_lem (counts_as a.u) a.n name e ∙ sym (ap (λ (z : Seen). put_counts z name (counts_as a.u)) c.in-Nothing.is)
+    λ name e. plus_name_lem (counts_as a.u) a.n name e ∙ sym (ap (λ (z : Option Seen). put_counts z name (counts_as a.u)) c.in-None.is)

@@ -28,4 +28,4 @@ overflow_add-result-4 c =
 pub returns : goal.returns
 returns c =
     let a = c.args in
-    λ q t en ee em. plus_tree_lem (counts_as a.u) a.n a.entries a.names q t en ee em
+    λ q t en ee em. plus_tree_lem (counts_as a.u) a.n a.size.entries a.size.name_bytes q t en ee em

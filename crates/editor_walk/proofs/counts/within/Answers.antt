@@ -4,23 +4,16 @@ use native.Mathlib.Omega.{arith}
 use Rattle.editor_walk.specs.Counted.{counts_as}
 use Rattle.editor_walk.proofs.CountLaws.{not_within, within_paths}
 use Rattle.editor_walk.proofs.counts.within.Goals as goal
+use Rattle.editor_walk.proofs.counts.within.Goals.{then-u-gt-SLOTS-via-then-u-gt-SLOTS, then-u-gt-SLOTS-via-else-u-gt-SLOTS+then-u-gt-ENTRIES, then-u-gt-SLOTS-via-else-u-gt-SLOTS+else-u-gt-ENTRIES+then-u-gt-NAME_BYTES}
 
 pub returns-then-u-gt-SLOTS : goal.returns-then-u-gt-SLOTS
 returns-then-u-gt-SLOTS c =
-    let u = c.args.u in
-    sym (not_within (counts_as u) (λ r. let z = r.trees in omega (arith, z, c.if-u-gt-SLOTS.true)))
-
-pub returns-then-u-gt-ENTRIES : goal.returns-then-u-gt-ENTRIES
-returns-then-u-gt-ENTRIES c =
-    let u = c.args.u in
-    sym (not_within (counts_as u) (λ r. let z = r.entries in omega (arith, z, c.if-u-gt-ENTRIES.true)))
-
-pub returns-then-u-gt-NAME_BYTES : goal.returns-then-u-gt-NAME_BYTES
-returns-then-u-gt-NAME_BYTES c =
-    let u = c.args.u in
-    sym (not_within (counts_as u) (λ r. let z = r.names in omega (arith, z, c.if-u-gt-NAME_BYTES.true)))
+    sym (not_within (counts_as c.args.u) (λ r.
+    elim c.then-u-gt-SLOTS.branch [
+      | then-u-gt-SLOTS-via-then-u-gt-SLOTS w ↦ omega (arith, r.trees, w.if-u-gt-SLOTS.true)
+      | then-u-gt-SLOTS-via-else-u-gt-SLOTS+then-u-gt-ENTRIES w ↦ omega (arith, r.entries, w.if-u-gt-ENTRIES.true)
+      | then-u-gt-SLOTS-via-else-u-gt-SLOTS+else-u-gt-ENTRIES+then-u-gt-NAME_BYTES w ↦ omega (arith, r.names, w.if-u-gt-NAME_BYTES.true)
+    ]))
 
 pub returns : goal.returns
-returns c =
-    let u = c.args.u in
-    within_paths (counts_as u) (omega (arith, c.if-u-gt-SLOTS.false)) (omega (arith, c.if-u-gt-ENTRIES.false)) (omega (arith, c.if-u-gt-NAME_BYTES.false))
+returns c = within_paths (counts_as c.args.u) c.if-u-gt-SLOTS.false c.if-u-gt-ENTRIES.false c.if-u-gt-NAME_BYTES.false

@@ -6,4 +6,4 @@ use Rattle.editor_walk.proofs.counts.without_entry.Goals as goal
 pub returns : goal.returns
 returns c =
     let a = c.args in
-    λ name e. less_name_lem (counts_as a.u) a.n name e c.less-entries.ensures c.less-names.ensures
+    λ name e. less_name_lem (counts_as a.u) a.n name e c.saturating_sub.ensures c.saturating_sub-2.ensures

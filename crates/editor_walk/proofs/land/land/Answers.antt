@@ -3,7 +3,8 @@ use mathlib.Core.Path.{subst}
 use Rattle.model.specs.Formats.{sha1}
 use Rattle.store_runs.specs.Digits.{digits}
 use Rattle.store_runs.specs.Runs.{cut}
-use Rattle.store_runs.specs.declared.runs.Found.{Found}
+use Prim.Native.Nat.{ℕ}
+use Rattle.std.specs.Prelude.{Option}
 use Rattle.store_slots.specs.View.{SlotIs}
 use Rattle.editor_terms.specs.Edits.{wanted_as}
 use Rattle.editor_terms.specs.Objects.{table_of}
@@ -11,11 +12,11 @@ use Rattle.editor_walk.specs.Landings.{planned}
 use Rattle.editor_walk.proofs.LandLaws.{lands_new}
 use Rattle.editor_walk.proofs.land.land.Goals as goal
 
-pub returns-in-At : goal.returns-in-At
-returns-in-At c = λ w bs l. subst (λ (z : Found). SlotIs w (digits 64 c.args.ed.hidden) (cut c.args.plens.now c.args.paths.now) bs c.args.below.now z) c.in-At.is (c.find.ensures w bs l)
+pub returns-in-Some : goal.returns-in-Some
+returns-in-Some c = λ w bs l. subst (λ (z : Option ℕ). SlotIs w (digits 64 c.args.ed.hidden) (cut c.args.plens.now c.args.paths.now) bs c.args.below.now z) c.in-Some.is (c.find.ensures w bs l)
 
-pub returns-in-Nothing : goal.returns-in-Nothing
-returns-in-Nothing c =
-    lands_new c.args.raws.now (planned sha1 (table_of c.args.ids.now c.args.ends.now c.args.raws.now) c.args.leaf (wanted_as c.args.wanted)) (digits 64 c.args.ed.hidden) (cut c.args.plens.now c.args.paths.now) c.args.below.now c.land_new.result
-    (λ w bs l. subst (λ (z : Found). SlotIs w (digits 64 c.args.ed.hidden) (cut c.args.plens.now c.args.paths.now) bs c.args.below.now z) c.in-Nothing.is (c.find.ensures w bs l))
+pub returns-in-None : goal.returns-in-None
+returns-in-None c =
+    lands_new (planned sha1 (table_of c.args.ids.now c.args.ends.now c.args.raws.now) c.args.leaf (wanted_as c.args.wanted)) (digits 64 c.args.ed.hidden) (cut c.args.plens.now c.args.paths.now) c.args.below.now c.land_new.result
+    (λ w bs l. subst (λ (z : Option ℕ). SlotIs w (digits 64 c.args.ed.hidden) (cut c.args.plens.now c.args.paths.now) bs c.args.below.now z) c.in-None.is (c.find.ensures w bs l))
     c.land_new.ensures

@@ -18,39 +18,39 @@ returns-then-path-eq0 c =
     let a = c.args in
     look_empty a.path.now (path_of a.plens.now a.paths.now a.slot) (view_of 20 a.ed a.plens.now a.paths.now a.tlens.now a.trees.now) c.if-path-eq0.true
 
-pub loop-r-init : goal.loop-r-init
-loop-r-init c =
+pub loop-found-init : goal.loop-found-init
+loop-found-init c =
     let a = c.args in
     look_begin a.ed a.plens.now a.paths.now a.tlens.now a.trees.now a.full.now a.path.now a.slot c.requires.2 c.requires.3 c.if-path-eq0.false
 
 pub overflow_sub-end : goal.overflow_sub-end
-overflow_sub-end c = omega (arith, front_long c.loop-r.invariant.front)
+overflow_sub-end c = omega (arith, front_long c.loop-found.invariant.front)
 
 pub overflow_add-end : goal.overflow_add-end
-overflow_add-end c = omega (arith, front_long c.loop-r.invariant.front, piece_short c.loop-r.p.now c.component_len-k.result c.component_len-k.ensures)
+overflow_add-end c = omega (arith, front_long c.loop-found.invariant.front, piece_short c.loop-found.p.now c.component_len-k.result c.component_len-k.ensures)
 
 pub tree_in-tree-requires : goal.tree_in-tree-requires
-tree_in-tree-requires c = (c.requires.0.trees_sound, omega (arith, c.requires.0.tlens_64, c.loop-r.invariant.used.low))
+tree_in-tree-requires c = (c.requires.0.trees_sound, omega (arith, c.requires.0.tlens_64, c.loop-found.invariant.used.low))
 
 pub look_in-requires : goal.look_in-requires
 look_in-requires c =
     let a = c.args in
     let run = c.tree_in-tree.ensures in
-    let low = c.loop-r.invariant.used.low in (
+    let low = c.loop-found.invariant.used.low in (
       c.requires.0.paths_sound,
       c.requires.0.plens_64,
-      subst (Run 20) (sym run) (searched_run 20 a.ed a.plens.now a.paths.now a.tlens.now a.trees.now c.requires.0 c.loop-r.at low),
-      ap (λ t. well_formed 20 t) (ap (unpack 20) run ∙ tree_run 20 a.ed a.plens.now a.paths.now a.tlens.now a.trees.now c.requires.0 c.loop-r.at low) ∙ c.requires.0.well c.loop-r.at low,
-      ap (has 47) c.front-name.ensures ∙ piece_plain c.loop-r.p.now c.component_len-k.result c.component_len-k.ensures,
+      subst (Run 20) (sym run) (searched_run 20 a.ed a.plens.now a.paths.now a.tlens.now a.trees.now c.requires.0 c.loop-found.at low),
+      ap (λ t. well_formed 20 t) (ap (unpack 20) run ∙ tree_run 20 a.ed a.plens.now a.paths.now a.tlens.now a.trees.now c.requires.0 c.loop-found.at low) ∙ c.requires.0.well c.loop-found.at low,
+      ap (has 47) c.front-name.ensures ∙ piece_plain c.loop-found.p.now c.component_len-k.result c.component_len-k.ensures,
     )
 
-pub returns-in-Over : goal.returns-in-Over
-returns-in-Over c = look_over c.loop-r.invariant c.requires.0 c.requires.1 c.component_len-k.ensures refl c.tree_in-tree.ensures refl c.front-below.ensures c.front-name.ensures c.look_in.ensures c.in-Over.is
+pub returns-in-Break : goal.returns-in-Break
+returns-in-Break c = look_over c.loop-found.invariant c.requires.0 c.requires.1 c.component_len-k.ensures refl c.tree_in-tree.ensures refl c.front-below.ensures c.front-name.ensures c.look_in.ensures c.in-Break.is
 
-pub loop-r-smaller : goal.loop-r-smaller
-loop-r-smaller c =
-    let d = look_shorter c.loop-r.invariant c.requires.0 c.requires.1 c.component_len-k.ensures refl c.tree_in-tree.ensures refl c.front-below.ensures c.front-name.ensures c.look_in.ensures c.in-In.is in
-    omega (arith, d, ap length c.tail-rest.ensures, length-drop (c.component_len-k.result + 1) c.loop-r.p.now)
+pub loop-found-smaller : goal.loop-found-smaller
+loop-found-smaller c =
+    let d = look_shorter c.loop-found.invariant c.requires.0 c.requires.1 c.component_len-k.ensures refl c.tree_in-tree.ensures refl c.front-below.ensures c.front-name.ensures c.look_in.ensures c.in-Continue.is in
+    omega (arith, d, ap length c.tail-p.ensures, length-drop (c.component_len-k.result + 1) c.loop-found.p.now)
 
-pub loop-r-preserved : goal.loop-r-preserved
-loop-r-preserved c = look_next c.loop-r.invariant c.requires.0 c.requires.1 c.component_len-k.ensures refl c.tree_in-tree.ensures refl c.front-below.ensures c.front-name.ensures c.look_in.ensures c.in-In.is c.tail-rest.ensures
+pub loop-found-preserved : goal.loop-found-preserved
+loop-found-preserved c = look_next c.loop-found.invariant c.requires.0 c.requires.1 c.component_len-k.ensures refl c.tree_in-tree.ensures refl c.front-below.ensures c.front-name.ensures c.look_in.ensures c.in-Continue.is c.tail-p.ensures

@@ -5,8 +5,8 @@ use Rattle.store_slots.specs.View.{view_of, path_of}
 use Rattle.editor_walk.proofs.LookupLaws.{Looking}
 use Rattle.editor_walk.proofs.look.look.Given as goal
 
-abbrev pub invariant-loop-r : goal.invariant-loop-r
-invariant-loop-r l = Looking l.ed l.plens l.paths l.tlens l.trees l.full (model.look (components l.path) (path_of l.plens l.paths l.slot) (view_of 20 l.ed l.plens l.paths l.tlens l.trees)) l.path l.p l.at
+abbrev pub invariant-loop-found : goal.invariant-loop-found
+invariant-loop-found l = Looking l.ed l.plens l.paths l.tlens l.trees l.full (model.look (components l.path) (path_of l.plens l.paths l.slot) (view_of 20 l.ed l.plens l.paths l.tlens l.trees)) l.path l.p l.at
 
-abbrev pub decreases-loop-r : goal.decreases-loop-r
-decreases-loop-r l = length l.p
+abbrev pub decreases-loop-found : goal.decreases-loop-found
+decreases-loop-found l = length l.p

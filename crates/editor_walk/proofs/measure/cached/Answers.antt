@@ -1,14 +1,13 @@
 -- `editor_walk::measure::cached` meets its contract: a tree over a limit by itself passes it, and the counts decide otherwise. Assumes nothing.
 use mathlib.Core.Path.{sym, ◌∙◌}
+use mathlib.Core.Logic.{inl, inr}
 use Rattle.model.proofs.Basics.{not_true, not_false}
 use Rattle.editor_walk.proofs.MeasureLaws.{cached_entries, cached_names, cached_past, cached_on}
 use Rattle.editor_walk.proofs.measure.cached.Goals as goal
 
-pub returns-then-entries-gt-ENTRIES : goal.returns-then-entries-gt-ENTRIES
-returns-then-entries-gt-ENTRIES c = cached_entries c.if-entries-gt-ENTRIES.true c.ended.ensures
-
-pub returns-then-names-gt-NAME_BYTES : goal.returns-then-names-gt-NAME_BYTES
-returns-then-names-gt-NAME_BYTES c = cached_names c.if-names-gt-NAME_BYTES.true c.ended-then-names-gt-NAME_BYTES.ensures
+pub returns-then-size-gt-ENTRIES : goal.returns-then-size-gt-ENTRIES
+returns-then-size-gt-ENTRIES c =
+    elim c.then-size-gt-ENTRIES.either [ inl h ↦ cached_entries h c.ended.ensures | inr h ↦ cached_names h.1 c.ended.ensures ]
 
 pub returns-then-not-within : goal.returns-then-not-within
 returns-then-not-within c = cached_past c.with_tree-w.result c.with_tree-w.ensures (sym c.within.ensures ∙ not_true _ c.if-not-within.true-raw) c.ended-then-not-within.ensures

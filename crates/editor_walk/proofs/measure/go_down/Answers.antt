@@ -19,8 +19,8 @@ pub returns : goal.returns
 returns c =
     let ds = digits 64 c.args.ed.hidden in
     let ps = cut c.args.plens.now c.args.paths.now in
-    let l : LandsAs c.args.raws.now (planned sha1 (table_of c.args.ids.now c.args.ends.now c.args.raws.now) (is_leaf_removal (as_edit c.args.edit)) (wanted_by c.args.turn)) ds ps c.args.below.now c.land-landing.result =
-    subst (λ (z : Plan). LandsAs c.args.raws.now z ds ps c.args.below.now c.land-landing.result) (ap₂ (λ (b : Bool) (i : Option Bytes). planned sha1 (table_of c.args.ids.now c.args.ends.now c.args.raws.now) b i) c.is_leaf_removal-leaf.ensures c.wanted_by-wanted.ensures) c.land-landing.ensures in
+    let l : LandsAs (planned sha1 (table_of c.args.ids.now c.args.ends.now c.args.raws.now) (is_leaf_removal (as_edit c.args.edit)) (wanted_by c.args.turn)) ds ps c.args.below.now c.land-landing.result =
+    subst (λ (z : Plan). LandsAs z ds ps c.args.below.now c.land-landing.result) (ap₂ (λ (b : Bool) (i : Option Bytes). planned sha1 (table_of c.args.ids.now c.args.ends.now c.args.raws.now) b i) c.is_leaf_removal-leaf.ensures c.wanted-wanted.ensures) c.land-landing.ensures in
     λ tlens trees lt.
-    c.landed.ensures.is tlens trees c.args.raws.now c.args.below.now _ refl
-    (land_is (table_of c.args.ids.now c.args.ends.now c.args.raws.now) (as_edit c.args.edit) (wanted_by c.args.turn) ds ps c.args.raws.now c.args.below.now (counts_as c.args.u) tlens trees (length_digits 64 c.args.ed.hidden) lt c.land-landing.result l)
+    c.landed.ensures.is tlens trees c.args.below.now _ refl
+    (land_is (table_of c.args.ids.now c.args.ends.now c.args.raws.now) (as_edit c.args.edit) (wanted_by c.args.turn) ds ps c.args.below.now (counts_as c.args.u) tlens trees (length_digits 64 c.args.ed.hidden) lt c.land-landing.result l)

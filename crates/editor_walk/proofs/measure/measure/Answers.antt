@@ -23,7 +23,7 @@ returns-then-path-eq0 c =
 pub loop-p-init : goal.loop-p-init
 loop-p-init c =
     let a = c.args in
-    measure_begin (table_of a.ids.now a.ends.now a.raws.now) (as_edit a.edit) a.opening a.ed a.plens.now a.paths.now a.tlens.now a.trees.now a.raws.now a.full.now a.path.now a.slot c.requires.0 c.requires.2 c.requires.4 c.requires.5
+    measure_begin (table_of a.ids.now a.ends.now a.raws.now) (as_edit a.edit) a.opening a.ed a.plens.now a.paths.now a.tlens.now a.trees.now a.full.now a.path.now a.slot c.requires.0 c.requires.2 c.requires.4 c.requires.5
     c.if-path-eq0.false (counts_as c.counts_of-u.result) c.counts_of-u.ensures
 
 pub overflow_sub-end : goal.overflow_sub-end
@@ -62,9 +62,9 @@ pub loop-p-smaller : goal.loop-p-smaller
 loop-p-smaller c =
     let a = c.args in
     let d = measure_shorter c.loop-p.invariant c.component_len-k.ensures refl refl c.front-below.ensures c.front-name.ensures (cached_view 20 a.ed a.plens.now a.paths.now a.tlens.now a.trees.now c.requires.1) (c.step-g.ensures c.loop-p.invariant.tree c.loop-p.invariant.stands) (sym c.is_over.ensures ∙ c.if-is_over.false) in
-    omega (arith, d, ap length c.tail-rest.ensures, length-drop (c.component_len-k.result + 1) c.loop-p.p.now)
+    omega (arith, d, ap length c.tail-p.ensures, length-drop (c.component_len-k.result + 1) c.loop-p.p.now)
 
 pub loop-p-preserved : goal.loop-p-preserved
 loop-p-preserved c =
     let a = c.args in
-    measure_next c.loop-p.invariant c.component_len-k.ensures refl refl c.front-below.ensures c.front-name.ensures (cached_view 20 a.ed a.plens.now a.paths.now a.tlens.now a.trees.now c.requires.1) (c.step-g.ensures c.loop-p.invariant.tree c.loop-p.invariant.stands) (sym c.is_over.ensures ∙ c.if-is_over.false) c.tail-rest.ensures
+    measure_next c.loop-p.invariant c.component_len-k.ensures refl refl c.front-below.ensures c.front-name.ensures (cached_view 20 a.ed a.plens.now a.paths.now a.tlens.now a.trees.now c.requires.1) (c.step-g.ensures c.loop-p.invariant.tree c.loop-p.invariant.stands) (sym c.is_over.ensures ∙ c.if-is_over.false) c.tail-p.ensures

@@ -10,7 +10,7 @@ use Rattle.editor_walk.proofs.measure.measure.Given as goal
 
 abbrev pub invariant-loop-p : goal.invariant-loop-p
 invariant-loop-p l =
-    Measuring (table_of l.ids l.ends l.raws) (as_edit l.edit) l.opening (view_of 20 l.ed l.plens l.paths l.tlens l.trees) l.tlens l.trees l.raws l.full
+    Measuring (table_of l.ids l.ends l.raws) (as_edit l.edit) l.opening (view_of 20 l.ed l.plens l.paths l.tlens l.trees) l.tlens l.trees l.full
     (model.measure sha1 (table_of l.ids l.ends l.raws) (as_edit l.edit) l.opening (path_of l.plens l.paths l.slot) l.path (view_of 20 l.ed l.plens l.paths l.tlens l.trees)) l.p l.level (counts_as l.u)
 
 abbrev pub decreases-loop-p : goal.decreases-loop-p

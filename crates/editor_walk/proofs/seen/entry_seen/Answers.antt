@@ -1,22 +1,25 @@
 -- `editor_walk::seen::entry_seen` meets its contract: kind and id stand where the entry starts. Assumes nothing.
-use mathlib.Core.Path.{◌∙◌}
+use Prim.Native.Nat.{ℕ, ◌+◌}
+use mathlib.Core.Path.{sym, ap, ◌∙◌}
 use native.Mathlib.Omega.{arith}
+use lib.ListN.{take, drop}
 use Rattle.names_compact.specs.Compact.{entry_at}
 use Rattle.names_compact.proofs.CompactLaws.{mark}
 use Rattle.editor_walk.proofs.SeenLaws.{seen_parts}
 use Rattle.editor_walk.proofs.seen.entry_seen.Goals as goal
 
-pub overflow_add-at : goal.overflow_add-at
-overflow_add-at c =
-    let m = mark 20 c.args.tree.now c.args.i c.args.at c.requires.0 c.requires.1 c.requires.2 in
+pub overflow_add-place : goal.overflow_add-place
+overflow_add-place c =
+    let m = mark c.args.tree.width c.args.tree.bytes.now c.args.place.index c.args.place.at c.args.tree.run c.requires.1 c.requires.2 in
     omega (arith, m.room)
 
 pub id_at-id-requires : goal.id_at-id-requires
 id_at-id-requires c =
-    let m = mark 20 c.args.tree.now c.args.i c.args.at c.requires.0 c.requires.1 c.requires.2 in
-    omega (arith, m.room)
+    let m = mark c.args.tree.width c.args.tree.bytes.now c.args.place.index c.args.place.at c.args.tree.run c.requires.1 c.requires.2 in
+    omega (arith, m.room, c.requires.0)
 
 pub returns : goal.returns
 returns c =
-    let m = mark 20 c.args.tree.now c.args.i c.args.at c.requires.0 c.requires.1 c.requires.2 in
-    seen_parts c.entry_kind-kind.result c.id_at-id.result (entry_at 20 c.args.tree.now c.args.i) c.entry_kind-kind.ensures (c.id_at-id.ensures ∙ m.id)
+    let m = mark c.args.tree.width c.args.tree.bytes.now c.args.place.index c.args.place.at c.args.tree.run c.requires.1 c.requires.2 in
+    let e = ap (λ (w : ℕ). take w (drop (c.args.place.at + 2) c.args.tree.bytes.now)) (sym c.requires.0) in
+    seen_parts c.kind_at-kind.result c.id_at-id.result (entry_at c.args.tree.width c.args.tree.bytes.now c.args.place.index) c.kind_at-kind.ensures (c.id_at-id.ensures ∙ e ∙ m.id)

@@ -1,17 +1,17 @@
 -- `store_check::holds::exact` meets its contract: the two halves are all that an editor has to be. Assumes nothing.
-use borrow.Author.Tests.{not-true, not-false}
+use mathlib.Core.Path.{subst}
+use Rattle.store_check.specs.Decides.{Decides}
+use Rattle.store_check.specs.Lending.{LaidOut, WrittenOut}
 use Rattle.store_check.proofs.StoredLaws.{not_laid, then_written}
 use Rattle.store_check.proofs.holds.exact.Goals as goal
 
-pub returns-then-not-laid : goal.returns-then-not-laid
-returns-then-not-laid c F e =
-    let a = c.args in
-    not_laid F a.r a.plens.now a.paths.now a.tlens.now a.trees.now a.order.now a.width e c.laid.ensures (not-true _ c.if-not-laid.true-raw)
+pub returns-in-None : goal.returns-in-None
+returns-in-None c F e =
+    let s = c.args.s in
+    not_laid F s.record s.plens.now s.paths.now s.tlens.now s.trees.now s.order.now s.width e c.in-None.ensures
 
-pub write_ok-requires : goal.write_ok-requires
-write_ok-requires c = (c.laid.ensures.yes (not-false _ c.if-not-laid.false-raw), c.requires.5, c.requires.4)
-
-pub returns : goal.returns
-returns c F e =
-    let a = c.args in
-    then_written F a.r a.plens.now a.paths.now a.tlens.now a.trees.now a.order.now a.width e (c.laid.ensures.yes (not-false _ c.if-not-laid.false-raw)) c.write_ok.ensures
+pub returns-in-Some : goal.returns-in-Some
+returns-in-Some c F e =
+    let s = c.args.s in
+    let q = c.in-Some.ensures in
+    then_written F s.record s.plens.now s.paths.now s.tlens.now s.trees.now s.order.now s.width e (subst LaidOut q c.in-Some.laid.laid) (subst (λ x. Decides (WrittenOut x) c.write_ok.result) q c.write_ok.ensures)

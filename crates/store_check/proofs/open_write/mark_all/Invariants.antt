@@ -1,8 +1,7 @@
+use lib.ListN.{length}
+use Prim.Native.Nat.{◌-◌}
 use Rattle.store_check.proofs.MarkLaws.{Setting}
 use Rattle.store_check.proofs.open_write.mark_all.Given as goal
 
-abbrev pub invariant-loop-i : goal.invariant-loop-i
-invariant-loop-i l = Setting l.map l.order l.lo l.hi l.i l.all
-
-abbrev pub decreases-loop-i : goal.decreases-loop-i
-decreases-loop-i l = l.i
+abbrev pub invariant-loop-slot : goal.invariant-loop-slot
+invariant-loop-slot l = Setting l.map l.slots (length l.slots - length l.yielded) l.all

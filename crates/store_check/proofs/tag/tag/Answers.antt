@@ -7,25 +7,27 @@ use lib.ListN.{length}
 use Rattle.model.specs.Bytes.{Bytes}
 use Rattle.store_check.specs.Tag.{by_bytes, by_four, by_words, spread_of, tag_of}
 use Rattle.store_check.proofs.tag.tag.Goals as goal
+use Rattle.store_check.proofs.tag.tag.Goals.{in-0-to-3, in-4-to-16, in_default}
 
-module _ (p : Bytes) (h r : ℕ) where
-  few : length p < 4 → h ≡ by_bytes p → r ≡ spread_of h → (r ≡ tag_of p) × (r < 4096)
+module _ (p : Bytes) (h r : ℕ) (f : r ≡ spread_of h) where
+  few : length p < 4 → h ≡ by_bytes p → r ≡ tag_of p
   unfolding tag_of
-  few l e f = (f ∙ ap spread_of (e ∙ sym (rw (lt-ltb (length p) 4 l) refl)), omega (arith, f))
+  few l e = f ∙ ap spread_of (e ∙ sym (rw (lt-ltb (length p) 4 l) refl))
 
-  some : 4 ≤ length p → length p ≤ 16 → h ≡ by_four p → r ≡ spread_of h → (r ≡ tag_of p) × (r < 4096)
+  some : 4 ≤ length p → length p ≤ 16 → h ≡ by_four p → r ≡ tag_of p
   unfolding tag_of
-  some l m e f = (f ∙ ap spread_of (e ∙ sym (rw (le-ltb (length p) 4 l, le-leb (length p) 16 m) refl)), omega (arith, f))
+  some l m e = f ∙ ap spread_of (e ∙ sym (rw (le-ltb (length p) 4 l, le-leb (length p) 16 m) refl))
 
-  many : 4 ≤ length p → 16 < length p → h ≡ by_words p → r ≡ spread_of h → (r ≡ tag_of p) × (r < 4096)
+  many : 4 ≤ length p → 16 < length p → h ≡ by_words p → r ≡ tag_of p
   unfolding tag_of
-  many l m e f = (f ∙ ap spread_of (e ∙ sym (rw (le-ltb (length p) 4 l, lt-leb (length p) 16 m) refl)), omega (arith, f))
-
-pub returns-then-path-lt4 : goal.returns-then-path-lt4
-returns-then-path-lt4 c = few _ _ _ c.if-path-lt4.true c.by_bytes.ensures c.spread.ensures
-
-pub returns-then-path-le16 : goal.returns-then-path-le16
-returns-then-path-le16 c = some _ _ _ c.if-path-lt4.false c.if-path-le16.true c.by_four.ensures c.spread-then-path-le16.ensures
+  many l m e = f ∙ ap spread_of (e ∙ sym (rw (le-ltb (length p) 4 l, lt-leb (length p) 16 m) refl))
 
 pub returns : goal.returns
-returns c = many _ _ _ c.if-path-lt4.false c.if-path-le16.false c.by_words.ensures c.spread-2.ensures
+returns c = (
+  elim c.if-path-lt4.branch [
+    | in-0-to-3 w ↦ few _ _ _ (c.spread.ensures ∙ ap spread_of w.spread-is) (omega arith) w.by_bytes.ensures
+    | in-4-to-16 w ↦ some _ _ _ (c.spread.ensures ∙ ap spread_of w.spread-is) (omega arith) (omega arith) w.by_four.ensures
+    | in_default w ↦ many _ _ _ (c.spread.ensures ∙ ap spread_of w.spread-is) (omega arith) (omega arith) w.by_words.ensures
+  ],
+  omega (arith, c.spread.ensures),
+)

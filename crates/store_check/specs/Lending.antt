@@ -1,0 +1,52 @@
+-- What a record and lent slices hold, in the words of the view. Assumes nothing.
+use Rattle.std.specs.Prelude.{ℕ, List}
+use Rattle.model.specs.Bytes.{Bytes}
+use Rattle.model.specs.Editor.{Held, Cache}
+use Rattle.store_slots.specs.View.{path_of, held_at, cached_of, aside_of, stacked_of, start_slot}
+use Rattle.store_check.specs.Laid.{Lays}
+use Rattle.store_check.specs.Parents.{Parented, Hanging}
+use Rattle.store_check.specs.Written.{Written, Taking, aside_by}
+use Rattle.store_check.specs.declared.lent.Lent.{Lent}
+use Rattle.store_check.specs.declared.parents.Known.{Known}
+
+-- the trees are laid out, good and within the limits
+abbrev pub LaidOut : Lent → Type 0
+LaidOut s = Lays s.width s.record s.plens.now s.paths.now s.tlens.now s.trees.now
+
+-- a write is open, with its trees in slots of their own
+abbrev pub TakenOut : Lent → Type 0
+TakenOut s = Taking s.width s.record s.plens.now s.paths.now s.tlens.now s.trees.now s.order.now
+
+-- the open write, if one is open, is one that can be
+abbrev pub WrittenOut : Lent → Type 0
+WrittenOut s = Written s.width s.record s.plens.now s.paths.now s.tlens.now s.trees.now s.order.now
+
+abbrev pub path_in : Lent → ℕ → Bytes
+path_in s k = path_of s.plens.now s.paths.now k
+
+-- the path of the tree that the write started at
+abbrev pub start_in : Lent → Bytes
+start_in s = path_in s (start_slot s.record s.order.now)
+
+abbrev pub held_in : Lent → ℕ → Held
+held_in s k = held_at s.width s.plens.now s.paths.now s.tlens.now s.trees.now k
+
+abbrev pub cached_in : Lent → Cache
+cached_in s = cached_of s.width s.record s.plens.now s.paths.now s.tlens.now s.trees.now
+
+-- the trees set aside, the first n of them, and those stacked
+abbrev pub aside_in : Lent → List Held
+aside_in s = aside_of s.width s.record s.plens.now s.paths.now s.tlens.now s.trees.now s.order.now
+
+abbrev pub first_aside : Lent → ℕ → List Held
+first_aside s n = aside_by s.width s.plens.now s.paths.now s.tlens.now s.trees.now s.order.now n
+
+abbrev pub stacked_in : Lent → List Held
+stacked_in s = stacked_of s.width s.record s.plens.now s.paths.now s.tlens.now s.trees.now s.order.now
+
+-- those stacked from i on lie below those set aside, and so does the requested tree, where that is known
+abbrev pub ParentedIn : Lent → ℕ → Type 0
+ParentedIn s i = Parented s.width s.record s.plens.now s.paths.now s.tlens.now s.trees.now s.order.now i
+
+abbrev pub HangingIn : Lent → Known → Type 0
+HangingIn s f = Hanging s.width s.record s.plens.now s.paths.now s.tlens.now s.trees.now s.order.now f
