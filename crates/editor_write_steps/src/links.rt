@@ -22,8 +22,8 @@ fn parent_of(v: View<'_>, slot: usize) -> usize
     v.find_used(path).unwrap_or(slot)
 }
 
-// Writes the name of the tree in a slot to the front of the buffer, and says how long it is.
-fn put_name(name: &mut [u8; NAME], v: View<'_>, slot: usize) -> usize
+// Copies the name of the tree in a slot to the front of a buffer, and says how long it is.
+fn copy_name(name: &mut [u8; NAME], v: View<'_>, slot: usize) -> usize
     requires { KeysSound v × (slot < length v.plens.now) × (length (base (path_of v.plens.now v.paths.now slot)) ≤ 255) }
     ensures { (result ≡ length (base (path_of v.entry.plens.now v.entry.paths.now slot)))
         × (take result name.new ≡ base (path_of v.entry.plens.now v.entry.paths.now slot)) }
@@ -44,7 +44,7 @@ fn remove_entry(s: &mut Store<'_>, width: usize, slot: usize)
 {
     let mut name = [0u8; NAME];
     let v = s.view();
-    let n = put_name(&mut name, v, slot);
+    let n = copy_name(&mut name, v, slot);
     let parent = parent_of(v, slot);
     store_entries::remove(s, width, parent, &name[..n]);
 }
@@ -77,7 +77,7 @@ fn set_entry(s: &mut Store<'_>, width: usize, slot: usize, id: &[u8])
 {
     let mut name = [0u8; NAME];
     let v = s.view();
-    let n = put_name(&mut name, v, slot);
+    let n = copy_name(&mut name, v, slot);
     let parent = parent_of(v, slot);
     let entry = Entry {
         kind: EntryKind::Tree,

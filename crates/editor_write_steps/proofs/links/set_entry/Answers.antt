@@ -9,15 +9,15 @@ use Rattle.editor_write_steps.proofs.LinkRoom.{name_asked, parent_asked, name_go
 use Rattle.editor_write_steps.proofs.links.set_entry.Goals as goal
 use Rattle.editor_write_steps.proofs.links.set_entry.Goals.{After-parent_of-parent}
 
-pub put_name-n-requires : goal.put_name-n-requires
-put_name-n-requires c = let e = c.view-v.ensures in rw (e.ed, e.plens, e.paths) (name_asked c.args.s.now c.requires.0 c.requires.2.1)
+pub copy_name-n-requires : goal.copy_name-n-requires
+copy_name-n-requires c = let e = c.view-v.ensures in rw (e.ed, e.plens, e.paths) (name_asked c.args.s.now c.requires.0 c.requires.2.1)
 
 pub parent_of-parent-requires : goal.parent_of-parent-requires
 parent_of-parent-requires c = let e = c.view-v.ensures in rw (e.ed, e.plens, e.paths) (parent_asked c.args.s.now c.requires.0 c.requires.2.1)
 
 -- the name and the parent's slot
-named : (c : After-parent_of-parent) → take c.put_name-n.result c.put_name-n.new.name ≡ base (path_in_slot c.args.s.now c.args.slot)
-named c = let e = c.view-v.ensures in rw (e.plens, e.paths) at c.put_name-n.ensures.1
+named : (c : After-parent_of-parent) → take c.copy_name-n.result c.copy_name-n.new.name ≡ base (path_in_slot c.args.s.now c.args.slot)
+named c = let e = c.view-v.ensures in rw (e.plens, e.paths) at c.copy_name-n.ensures.1
 
 above : (c : After-parent_of-parent) → AtParent c.args.s.now c.args.slot c.parent_of-parent.result
 above c = let e = c.view-v.ensures in rw (e.ed, e.plens, e.paths) at c.parent_of-parent.ensures

@@ -1,4 +1,4 @@
--- `editor_write_steps::links::put_name` meets its contract: the name is the end of the slot's path, and fits. Assumes nothing.
+-- `editor_write_steps::links::copy_name` meets its contract: the name is the end of the slot's path, and fits. Assumes nothing.
 use mathlib.Core.Path.{◌≡◌, sym, ap, ◌∙◌}
 use native.Mathlib.Omega.{arith}
 use lib.ListN.{length, take}
@@ -6,8 +6,8 @@ use Rattle.model.specs.Paths.{base}
 use Rattle.names.proofs.WriteLaws.{splice_front}
 use Rattle.store_runs.proofs.FindLaws.{cut_at}
 use Rattle.store_slots.specs.View.{path_of}
-use Rattle.editor_write_steps.proofs.links.put_name.Goals as goal
-use Rattle.editor_write_steps.proofs.links.put_name.Goals.{After-filename}
+use Rattle.editor_write_steps.proofs.links.copy_name.Goals as goal
+use Rattle.editor_write_steps.proofs.links.copy_name.Goals.{After-filename}
 
 -- the name was read
 name_read : (c : After-filename) → c.filename.result.now ≡ base (path_of c.args.v.plens.now c.args.v.paths.now c.args.slot)
