@@ -1,5 +1,6 @@
 -- The parent of a tree in hand is set aside, and it alone is at its path, so an edit of it changes just one of the trees set aside. Assumes nothing.
 use mathlib.Core.Path.{◌≡◌, refl, sym, ap, ap₂, ◌∙◌, subst}
+use Rattle.std.specs.Prelude.{Option, Some, None, unwrap_or}
 use mathlib.Core.Bool.{Bool, true, false, not, ◌&&◌, ◌||◌, cond}
 use mathlib.Core.List.{List, [], ◌∷◌, ◌++◌, map, reverse, reverse-cons}
 use Prim.Native.Nat.{ℕ, zero, suc, ◌-◌, ◌<◌, compare, Ordering}
@@ -19,19 +20,19 @@ use Rattle.model.proofs.ByteLaws.{same_eq, same_refl, same_of, has_here, has_pas
 use Rattle.store_runs.specs.Digits.{digits}
 use Rattle.store_runs.specs.Runs.{cut}
 use Rattle.store_runs.specs.Find.{find_from}
-use Rattle.store_runs.specs.declared.runs.Found.{Found}
-use Rattle.store_runs.specs.declared.runs.Found.TheVariants.{At, Nothing}
 use Rattle.store_runs.proofs.DigitLaws.{length_digits}
 use Rattle.store_runs.proofs.RunLaws.{length_cut}
-use Rattle.store_slots.specs.View.{if_used, held_in, slots_of, SlotIs, Laid, Used, SameWrite, path_of, tree_of, held_at, cached_of, aside_of, stacked_of, all_different}
+use Rattle.store_slots.specs.View.{if_used, held_in, slots_of, SlotIs, Laid, Used, path_of, tree_of, held_at, cached_of, aside_of, stacked_of, all_different}
 use Rattle.store_slots.proofs.Where.{slot_is}
 use Rattle.store_slots.specs.declared.Record.{Record}
-use Rattle.store_entries.specs.Entries.{Kept, Edited}
-use Rattle.store_taken.specs.Taken.{going_of, Between, SameTree, all_taken}
+use Rattle.store_slots.specs.declared.Store.{Store}
+use Rattle.store_slots.specs.Stores.{LaidIn, cached_in, path_in_slot, tree_in_slot}
+use Rattle.store_entries.specs.Entries.{Kept, Edited, EditedIn}
+use Rattle.store_taken.specs.Taken.{going_in, going_of, Between, SameTree, all_taken}
 use Rattle.store_taken.proofs.Marking.{all_both, all_left, all_right, all_other, map_same, marked_here}
 use Rattle.store_taken.proofs.Steps.{marks_same}
 use Rattle.store_taken.proofs.Ends.{cached_same, trees_same, held_same}
-use Rattle.editor_write_steps.specs.Writes.{unlinked_on, linked_on, Child}
+use Rattle.editor_write_steps.specs.Writes.{unlinked_on, linked_on, ChildIn}
 
 -- ---- slots at one path
 
@@ -186,9 +187,6 @@ change_map : (q : Bytes) (f : Tree → Tree) (g : ℕ → Held) (l : List ℕ) �
 change_map q f g [] = refl
 change_map q f g (x ∷ l) = ap (λ (m : List Held). cond (same (g x).path q) (record { path = (g x).path; held = f (g x).held }) (g x) ∷ m) (change_map q f g l)
 
-pub write_more : {r q s : Record} → SameWrite r q → SameWrite q s → SameWrite r s
-write_more a b = record { «open» = b.«open» ∙ a.«open»; aside = b.aside ∙ a.aside; stacked = b.stacked ∙ a.stacked; asked = b.asked ∙ a.asked }
-
 pub between_kept : (r q : Record) (order hand : List ℕ) → Kept r q → Between r order hand → Between q order hand
 between_kept r q order hand k b = record {
   order_64 = b.order_64;
@@ -259,42 +257,44 @@ module _ (w : ℕ) (r : Record) (plens paths tlens trees : List ℕ) (L : Laid w
 
 -- ---- an edit of the parent of the tree in hand
 
-module _ (w : ℕ) (r : Record) (plens paths tlens trees : List ℕ) (L : Laid w r plens paths tlens trees) (slot k : ℕ) (u : Used r k) (e : path_of plens paths k ≡ dir (path_of plens paths slot)) where
-  -- the slot at the parent's path is the parent's
-  pub is_parent : (order : List ℕ) → Child w r plens paths tlens trees order slot → Parent w r plens paths tlens trees order (path_of plens paths slot) k
+-- the slot k is at the parent's path
+abbrev pub AtParent : Store → ℕ → ℕ → Type 0
+AtParent s slot k = Used s.ed k × (path_in_slot s k ≡ dir (path_in_slot s slot))
+
+module _ {w : ℕ} (s : Store) {slot k : ℕ} (L : LaidIn w s) (u : AtParent s slot k) where
+  -- so it is the parent's
+  pub is_parent : (order : List ℕ) → ChildIn w s order slot → Parent w s.ed s.plens.now s.paths.now s.tlens.now s.trees.now order (path_in_slot s slot) k
   is_parent order c =
-      let (j, p) = parent_there w r plens paths tlens trees order (slot ∷ []) (path_of plens paths slot) c.between c.parent in
-      subst (Parent w r plens paths tlens trees order (path_of plens paths slot)) (one_slot w r plens paths tlens trees L j k p.used u (p.is.path ∙ sym e)) p
+      let (j, p) = parent_there w s.ed s.plens.now s.paths.now s.tlens.now s.trees.now order (slot ∷ []) (path_in_slot s slot) c.between c.parent in
+      subst (Parent w s.ed s.plens.now s.paths.now s.tlens.now s.trees.now order (path_in_slot s slot)) (one_slot w s.ed s.plens.now s.paths.now s.tlens.now s.trees.now L j k p.used u.0 (p.is.path ∙ sym u.1)) p
 
-  module _ (f : Tree → Tree) (q : Record) (tlens' trees' : List ℕ) (E : Edited w r plens paths tlens trees k (f (tree_of w tlens trees k)) q tlens' trees') where
-    parent_going : (order : List ℕ) → Child w r plens paths tlens trees order slot →
-        going_of w q plens paths tlens' trees' order ≡ record { cache = cached_of w r plens paths tlens trees; stack = stacked_of w r plens paths tlens trees order; kept = change_at (dir (path_of plens paths slot)) f (aside_of w r plens paths tlens trees order) }
+  module _ (f : Tree → Tree) {q : Store} (e : EditedIn w s k (f (tree_in_slot w s k)) q) where
+    parent_going : (order : List ℕ) → ChildIn w s order slot →
+        going_in w q order ≡ record { cache = cached_in w s; stack = (going_in w s order).stack; kept = change_at (dir (path_in_slot s slot)) f (going_in w s order).kept }
     parent_going order c =
-        edit_going w r plens paths tlens trees L order (slot ∷ []) c.between k u (is_parent order c).aside f q tlens' trees' E
-        ∙ ap (λ (x : Bytes). record { cache = cached_of w r plens paths tlens trees; stack = stacked_of w r plens paths tlens trees order; kept = change_at x f (aside_of w r plens paths tlens trees order) }) e
+        rw (e.keys.plens, e.keys.paths)
+        (edit_going w s.ed s.plens.now s.paths.now s.tlens.now s.trees.now L order (slot ∷ []) c.between k u.0 (is_parent order c).aside f q.ed q.tlens.now q.trees.now e.edit
+        ∙ ap (λ (x : Bytes). record { cache = cached_in w s; stack = (going_in w s order).stack; kept = change_at x f (going_in w s order).kept }) u.1)
 
-  pub unlink_going : (q : Record) (tlens' trees' : List ℕ) → Edited w r plens paths tlens trees k (without (base (path_of plens paths slot)) (tree_of w tlens trees k)) q tlens' trees' →
-      (order : List ℕ) → Child w r plens paths tlens trees order slot → going_of w q plens paths tlens' trees' order ≡ unlinked_on (path_of plens paths slot) (going_of w r plens paths tlens trees order)
+  pub unlink_going : {q : Store} → EditedIn w s k (without (base (path_in_slot s slot)) (tree_in_slot w s k)) q →
+      (order : List ℕ) → ChildIn w s order slot → going_in w q order ≡ unlinked_on (path_in_slot s slot) (going_in w s order)
   unfolding unlinked
-  unlink_going q tlens' trees' E = parent_going (λ t. without (base (path_of plens paths slot)) t) q tlens' trees' E
+  unlink_going e = parent_going (λ t. without (base (path_in_slot s slot)) t) e
 
-  pub link_going : (i : Bytes) (q : Record) (tlens' trees' : List ℕ) → Edited w r plens paths tlens trees k (with_entry (record { mode = TREE; name = base (path_of plens paths slot); id = i }) (tree_of w tlens trees k)) q tlens' trees' →
-      (order : List ℕ) → Child w r plens paths tlens trees order slot → going_of w q plens paths tlens' trees' order ≡ linked_on i (path_of plens paths slot) (going_of w r plens paths tlens trees order)
+  pub link_going : {q : Store} (i : Bytes) → EditedIn w s k (with_entry (record { mode = TREE; name = base (path_in_slot s slot); id = i }) (tree_in_slot w s k)) q →
+      (order : List ℕ) → ChildIn w s order slot → going_in w q order ≡ linked_on i (path_in_slot s slot) (going_in w s order)
   unfolding linked
-  link_going i q tlens' trees' E = parent_going (λ t. with_entry (record { mode = TREE; name = base (path_of plens paths slot); id = i }) t) q tlens' trees' E
+  link_going i e = parent_going (λ t. with_entry (record { mode = TREE; name = base (path_in_slot s slot); id = i }) t) e
 
--- a slot that was found at a path
-pub found_slot : (r : Record) (plens paths : List ℕ) (p : Bytes) (f : Found) (k : ℕ) → length plens ≡ 64 → f ≡ find_from 0 (digits 64 r.free) (cut plens paths) p → f ≡ At k → Used r k × (path_of plens paths k ≡ p)
-found_slot r plens paths p f k l e g =
-    let d = length_digits 64 r.free in
-    let n = length_cut plens paths ∙ l ∙ sym d in
-    let x = subst (SlotIs 0 (digits 64 r.free) (cut plens paths) (cut plens paths) p) (sym e ∙ g) (slot_is 0 r.free (cut plens paths) (cut plens paths) p n n) in
-    (record { low = omega (arith, d, x.0); used = x.1 }, x.2)
+-- the slot at a path where some used one is
+pub slot_at : (r : Record) (plens paths : List ℕ) (p : Bytes) (f : Option ℕ) (d : ℕ) → length plens ≡ 64 → f ≡ find_from 0 (digits 64 r.free) (cut plens paths) p →
+    (j : ℕ) × Used r j × (path_of plens paths j ≡ p) → Used r (unwrap_or f d) × (path_of plens paths (unwrap_or f d) ≡ p)
+slot_at r plens paths p f d l e x = go f (subst (SlotIs 0 (digits 64 r.free) (cut plens paths) (cut plens paths) p) (sym e) (slot_is 0 r.free (cut plens paths) (cut plens paths) p n n))
+  where
+    n : length (cut plens paths) ≡ length (digits 64 r.free)
+    n = length_cut plens paths ∙ l ∙ sym (length_digits 64 r.free)
 
--- some slot is found where a used one is
-pub some_slot : {B : Type 0} (r : Record) (plens paths : List ℕ) (p : Bytes) (f : Found) (j : ℕ) → length plens ≡ 64 → f ≡ find_from 0 (digits 64 r.free) (cut plens paths) p → f ≡ Nothing → Used r j → path_of plens paths j ≡ p → B
-some_slot r plens paths p f j l e g u q =
-    let d = length_digits 64 r.free in
-    let n = length_cut plens paths ∙ l ∙ sym d in
-    let x = subst (SlotIs 0 (digits 64 r.free) (cut plens paths) (cut plens paths) p) (sym e ∙ g) (slot_is 0 r.free (cut plens paths) (cut plens paths) p n n) in
-    no_way (sym (path_among 0 r plens paths (cut plens paths) j (l) (length_cut plens paths ∙ l) u) ∙ ap (λ (y : Bytes). among y (map at (slots_of 0 (digits 64 r.free) (cut plens paths) (cut plens paths)))) q ∙ x.1)
+    go : (f : Option ℕ) → SlotIs 0 (digits 64 r.free) (cut plens paths) (cut plens paths) p f → Used r (unwrap_or f d) × (path_of plens paths (unwrap_or f d) ≡ p)
+    go (Some k) y = (record { low = omega (arith, length_digits 64 r.free, y.0); used = y.1 }, y.2)
+    go None y =
+        no_way (sym (path_among 0 r plens paths (cut plens paths) x.0 l (length_cut plens paths ∙ l) x.1) ∙ ap (λ (q : Bytes). among q (map at (slots_of 0 (digits 64 r.free) (cut plens paths) (cut plens paths)))) x.2 ∙ y.1)

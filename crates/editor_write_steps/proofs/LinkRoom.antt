@@ -2,13 +2,15 @@
 use mathlib.Core.Path.{◌≡◌, refl, sym, ap, ap₂, ◌∙◌}
 use mathlib.Core.Bool.{true, ◌&&◌}
 use mathlib.Core.Option.{none, some}
-use mathlib.Core.List.{[], ◌∷◌}
-use Prim.Native.Nat.{ℕ, ◌+◌, Ordering}
+use mathlib.Core.List.{List, [], ◌∷◌}
+use Prim.Native.Nat.{ℕ, ◌+◌, ◌≤◌, ◌<◌, Ordering}
 use lib.Dec.{leb}
 use lib.ListN.{length}
+use native.Mathlib.Omega.{arith}
 use Rattle.model.specs.Bytes.{Bytes, cmp, by}
 use Rattle.model.specs.Map.{find, put}
 use Rattle.model.specs.Tree.{TREE, Tree, as_kind, entry_of, with_entry, good_name, well_formed, name_bytes}
+use Rattle.model.specs.Paths.{base, dir}
 use Rattle.model.specs.Editor.{Held, at, Cache, entry_count, name_count, path_count, fits}
 use Rattle.model.specs.Valid.{is_tree_entry}
 use Rattle.model.proofs.Basics.{none_some, some_inj}
@@ -17,6 +19,16 @@ use Rattle.model.proofs.SoundTrees.{total, sound_well, name_of}
 use Rattle.model.proofs.RoomCounts.{found_at, trees_total, entries_total, names_total, paths_total}
 use Rattle.model.proofs.RawLaws.{well_entries}
 use Rattle.model.proofs.WriteKeepsTrees.{good_find, is_some, set_keeps}
+use Rattle.model.proofs.DirBaseLaws.{base_plain}
+use Rattle.names_compact.proofs.CompactLaws.{name_short}
+use Rattle.store_runs.specs.Runs.{Sound}
+use Rattle.store_slots.specs.View.{Used}
+use Rattle.store_slots.specs.declared.Store.{Store}
+use Rattle.store_slots.specs.Stores.{LaidIn, path_in_slot, tree_in_slot, view_in}
+use Rattle.store_slots.proofs.Relaid.{find_slot}
+use Rattle.store_entries.specs.Entries.{FitsWith}
+use Rattle.editor_write_steps.specs.Writes.{ChildIn}
+use Rattle.editor_write_steps.proofs.LinkLaws.{AtParent, parent_there, is_parent}
 
 -- a tree put in the place of one that weighs the same
 total_same : (f : Held → ℕ) (a x : Held) (l : Cache) → f a ≡ f x → find at a.path l ≡ some x → total f (put at a l) ≡ total f l
@@ -55,3 +67,34 @@ module _ (w : ℕ) (n : Bytes) (pn : Plain n) (t : Tree) (wt : well_formed w t �
   set_fits p i c e f =
       let k = set_keeps w n pn t wt h i in
       same_fits p t (with_entry (record { mode = TREE; name = n; id = i }) t) c k.entries k.names e f
+
+-- ---- of the tree in hand
+
+module _ {w : ℕ} (s : Store) {slot : ℕ} {order : List ℕ} (L : LaidIn w s) (h : ChildIn w s order slot) where
+  low : slot < 64
+  low = h.between.marks.used.0.low
+
+  -- the parent is there
+  pub parent_asked : Sound s.plens.now s.paths.now s.ed.paths × (length s.plens.now ≡ 64) × (slot < 64) × ((j : ℕ) × Used s.ed j × (path_in_slot s j ≡ dir (path_in_slot s slot)))
+  parent_asked =
+      let (j, p) = parent_there w s.ed s.plens.now s.paths.now s.tlens.now s.trees.now order (slot ∷ []) (path_in_slot s slot) h.between h.parent in
+      (L.paths_sound, L.plens_64, low, (j, p.used, p.is.path))
+
+  module _ {k : ℕ} (u : AtParent s slot k) where
+    well : well_formed w (tree_in_slot w s k) ≡ true
+    well = L.well k u.0.low
+
+    pub name_good : good_name (base (path_in_slot s slot)) ≡ true
+    name_good = entry_named w (base (path_in_slot s slot)) (base_plain (path_in_slot s slot)) (tree_in_slot w s k) well (is_parent s L u order h).is.entry
+
+    pub link_fits : (i : Bytes) → fits (view_in w s) ≡ true → FitsWith w s k (with_entry (record { mode = TREE; name = base (path_in_slot s slot); id = i }) (tree_in_slot w s k))
+    link_fits i f =
+        set_fits w (base (path_in_slot s slot)) (base_plain (path_in_slot s slot)) (tree_in_slot w s k) well (is_parent s L u order h).is.entry (path_in_slot s k) i (view_in w s)
+        (find_slot w s.ed s.plens.now s.paths.now s.tlens.now s.trees.now L k u.0.low u.0.used) f
+
+  -- its name is a short one
+  pub name_asked : Sound s.plens.now s.paths.now s.ed.paths × (slot < length s.plens.now) × (length (base (path_in_slot s slot)) ≤ 255)
+  name_asked =
+      let l = L.plens_64 in
+      let p = parent_asked.3 in
+      (L.paths_sound, omega (arith, low, l), name_short (base (path_in_slot s slot)) (name_good (p.1, p.2)))

@@ -11,10 +11,10 @@ use Rattle.model.specs.Editor.{Held, Cache}
 use Rattle.model.specs.Write.{Going, Asking, pick_asking, scanned, finished, taken, onward, asking}
 use Rattle.model.proofs.Basics.{no_way}
 use Rattle.model.proofs.WriteLaws.{scan_count, unlinked_length, enough}
-use Rattle.store_slots.specs.View.{Laid, held_at}
+use Rattle.store_slots.specs.View.{Laid}
 use Rattle.store_slots.specs.declared.Record.{Record}
 use Rattle.store_taken.specs.Taken.{going_of, Between}
-use Rattle.editor_write_steps.specs.Writes.{unlinked_on, top_turn, hand_of, Step, goes, asks, step_of, finished_as, ended, next_of, Ready, StepHas, Steady, asks_on}
+use Rattle.editor_write_steps.specs.Writes.{unlinked_on, top_turn, Step, goes, asks, finished_as, ended, next_of, Ready, StepHas, Steady, asks_on}
 
 -- what is left of a step
 abbrev after : (Going → Asking) → Step → Asking
@@ -107,25 +107,13 @@ asking_on nil g =
 
 -- ---- the loop
 
--- what the write comes to, at a request or before it
-abbrev comes : Bytes → Bool → Held → Going → Asking
-comes nil true h g = asks_on h g
-comes nil false h g = on nil (weight g) g
-
-pub record Onward (w : ℕ) (a : Asking) (o : ℕ) (r : Record) (plens paths tlens trees order : List ℕ) (slot : ℕ) (done : Bool) : Type 0 where
+-- the write comes to a from here
+pub record Onward (w : ℕ) (a : Asking) (o : ℕ) (r : Record) (plens paths tlens trees order : List ℕ) : Type 0 where
   pub laid : Laid w r plens paths tlens trees
-  pub between : Between r order (hand_of done slot)
-  pub steady : done ≡ false → (n : ℕ) × Steady (null w) n (going_of w r plens paths tlens trees order)
-  pub answer : comes (null w) done (held_at w plens paths tlens trees slot) (going_of w r plens paths tlens trees order) ≡ a
+  pub between : Between r order []
+  pub steady : (n : ℕ) × Steady (null w) n (going_of w r plens paths tlens trees order)
+  pub answer : on (null w) (weight (going_of w r plens paths tlens trees order)) (going_of w r plens paths tlens trees order) ≡ a
   pub «open» : r.«open» ≡ o
-
--- the loop's test is decided
-pub onward_at : {w : ℕ} {a : Asking} {o : ℕ} {r : Record} {plens paths tlens trees order : List ℕ} {slot : ℕ} {done : Bool} → Onward w a o r plens paths tlens trees order slot done → (b : Bool) → done ≡ b → Onward w a o r plens paths tlens trees order slot b
-onward_at {w} {a} {o} {r} {plens} {paths} {tlens} {trees} {order} {slot} s b e = subst (Onward w a o r plens paths tlens trees order slot) e s
-
-pub less_at : (d : Bool) {n m : ℕ} → d ≡ false → n < m → n < cond d 0 m
-less_at false e l = l
-less_at true e l = no_way e
 
 steady_ready : (nil : Bytes) (n : ℕ) (g : Going) → Steady nil n g → Ready g
 steady_ready nil zero g s = absurd s
@@ -135,43 +123,35 @@ steady_more : (nil : Bytes) (n : ℕ) (g x : Going) → Steady nil n g → goes 
 steady_more nil zero g x s q = absurd s
 steady_more nil (suc n) g x s q = (n, subst (StepHas (λ y. Steady nil n y)) (sym q) s.1)
 
-pub onward_begin : (w : ℕ) (r : Record) (plens paths tlens trees order : List ℕ) (slot : ℕ) → Laid w r plens paths tlens trees → Between r order [] → (n : ℕ) × Steady (null w) n (going_of w r plens paths tlens trees order) →
-    Onward w (asking (null w) (going_of w r plens paths tlens trees order).stack (going_of w r plens paths tlens trees order).kept (going_of w r plens paths tlens trees order).cache) r.«open» r plens paths tlens trees order slot false
-onward_begin w r plens paths tlens trees order slot L b s =
-    record { laid = L; between = b; steady = λ e. s; answer = asking_on (null w) (going_of w r plens paths tlens trees order); «open» = refl }
+pub onward_begin : (w : ℕ) (r : Record) (plens paths tlens trees order : List ℕ) → Laid w r plens paths tlens trees → Between r order [] → (n : ℕ) × Steady (null w) n (going_of w r plens paths tlens trees order) →
+    Onward w (asking (null w) (going_of w r plens paths tlens trees order).stack (going_of w r plens paths tlens trees order).kept (going_of w r plens paths tlens trees order).cache) r.«open» r plens paths tlens trees order
+onward_begin w r plens paths tlens trees order L b s = record { laid = L; between = b; steady = s; answer = asking_on (null w) (going_of w r plens paths tlens trees order); «open» = refl }
 
-module _ {w : ℕ} {a : Asking} {o : ℕ} {r : Record} {plens paths tlens trees order : List ℕ} {slot : ℕ} (s : Onward w a o r plens paths tlens trees order slot false) where
+module _ {w : ℕ} {a : Asking} {o : ℕ} {r : Record} {plens paths tlens trees order : List ℕ} (s : Onward w a o r plens paths tlens trees order) where
   abbrev g : Going
   g = going_of w r plens paths tlens trees order
 
   pub onward_ready : Ready g
-  onward_ready = let x = s.steady refl in steady_ready (null w) x.0 g x.1
+  onward_ready = steady_ready (null w) s.steady.0 g s.steady.1
 
-  module _ {q : Record} {plens' paths' tlens' trees' order' : List ℕ} (slot' : ℕ) (f : Bool) (L : Laid w q plens' paths' tlens' trees') (b : Between q order' (hand_of f slot')) (eo : q.«open» ≡ r.«open»)
-      (e : step_of f (held_at w plens' paths' tlens' trees' slot') (going_of w q plens' paths' tlens' trees' order') ≡ next_of (null w) g) where
-    pub onward_more : Onward w a o q plens' paths' tlens' trees' order' slot' f
-    onward_more = record { laid = L; between = b; steady = steady_then f e; answer = answer_then f e ∙ s.answer; «open» = eo ∙ s.«open» }
-      where
-        G : Going
-        G = going_of w q plens' paths' tlens' trees' order'
+  -- a turn that makes a request makes the one that the write comes to
+  pub onward_asks : (h : Held) (x : Going) → asks h x ≡ next_of (null w) g → asks_on h x ≡ a
+  onward_asks h x e = sym (turn_asks (null w) g onward_ready.taken h x e) ∙ s.answer
 
-        H : Held
-        H = held_at w plens' paths' tlens' trees' slot'
+  module _ (q : Record) (plens' paths' tlens' trees' order' : List ℕ) (e : goes (going_of w q plens' paths' tlens' trees' order') ≡ next_of (null w) g) where
+    pub onward_more : Laid w q plens' paths' tlens' trees' → Between q order' [] → q.«open» ≡ r.«open» → Onward w a o q plens' paths' tlens' trees' order'
+    onward_more L b eo =
+        let x = going_of w q plens' paths' tlens' trees' order' in
+        record {
+          laid = L;
+          between = b;
+          steady = steady_more (null w) s.steady.0 g x s.steady.1 e;
+          answer = sym (turn_goes (null w) g onward_ready.taken x e) ∙ s.answer;
+          «open» = eo ∙ s.«open»;
+        }
 
-        steady_then : (f : Bool) → step_of f H G ≡ next_of (null w) g → f ≡ false → (n : ℕ) × Steady (null w) n G
-        steady_then true y z = no_way z
-        steady_then false y z = let x = s.steady refl in steady_more (null w) x.0 g G x.1 y
-
-        answer_then : (f : Bool) → step_of f H G ≡ next_of (null w) g → comes (null w) f H G ≡ on (null w) (weight g) g
-        answer_then true y = sym (turn_asks (null w) g onward_ready.taken H G y)
-        answer_then false y = sym (turn_goes (null w) g onward_ready.taken G y)
-
-    pub onward_less : cond f 0 (suc (weight (going_of w q plens' paths' tlens' trees' order'))) < suc (weight g)
-    onward_less = go f e
-      where
-        go : (f : Bool) → step_of f (held_at w plens' paths' tlens' trees' slot') (going_of w q plens' paths' tlens' trees' order') ≡ next_of (null w) g → cond f 0 (suc (weight (going_of w q plens' paths' tlens' trees' order'))) < suc (weight g)
-        go true y = omega arith
-        go false y = omega (arith, turn_less (null w) g onward_ready.taken (going_of w q plens' paths' tlens' trees' order') y)
+    pub onward_less : weight (going_of w q plens' paths' tlens' trees' order') < weight g
+    onward_less = turn_less (null w) g onward_ready.taken (going_of w q plens' paths' tlens' trees' order') e
 
 -- ---- what each turn asks, from what turns keep
 

@@ -16,7 +16,7 @@ use Rattle.model.specs.Write.{Going, one_kid, scanned}
 use Rattle.store_slots.specs.View.{held_at, aside_of, stacked_of}
 use Rattle.store_slots.specs.declared.Record.{Record}
 use Rattle.store_taken.specs.Taken.{kept_on, Between}
-use Rattle.editor_write_steps.specs.Writes.{scanned_on, top_turn, turned}
+use Rattle.editor_write_steps.specs.Writes.{scanned_on, top_turn}
 
 -- ---- how many are stacked and set aside
 
@@ -68,11 +68,3 @@ module _ (h : Held) (g q : Going) (e : q ≡ scanned_on h.path h.held g) where
       go : (ks : List Held) → kids ≡ ks → record { finish = false; hand = h; rest = record { cache = left; stack = reverse ks ++ g.stack; kept = h ∷ g.kept } } ≡ top_turn h g ks left
       go [] y = absurd (n (omega (arith, more, ap length y)))
       go (x ∷ xs) y = refl
-
--- the latest set aside
-pub last_turn : (h : Held) (g : Going) → length g.stack ≡ 0 → record { finish = true; hand = h; rest = g } ≡ turned (kept_on h g)
-last_turn h g z = go g.stack z
-  where
-    go : (s : List Held) → length s ≡ 0 → record { finish = true; hand = h; rest = record { cache = g.cache; stack = s; kept = g.kept } } ≡ turned (record { cache = g.cache; stack = s; kept = h ∷ g.kept })
-    go [] y = refl
-    go (x ∷ xs) y = absurd (omega (arith, y))

@@ -1,21 +1,32 @@
 -- The steps of a write between two requests, each as a change of the model's Going. Assumes nothing.
 use Rattle.std.specs.Prelude.{◌≡◌, Bool, true, false, not, ◌&&◌, cond, List, [], ◌∷◌, ◌++◌, reverse, ℕ, zero, suc, ◌≤◌, length}
-use Rattle.std.proofs.Math.Option.{Option, none, some}
+use Rattle.std.proofs.Math.Option.{Option as Maybe}
+use Rattle.std.proofs.Math.Option.{none, some}
+use Rattle.std.specs.Prelude.{Option, Some, None}
 use Rattle.model.specs.Bytes.{Bytes, is_nil}
 use Rattle.model.specs.Tree.{Tree, without_id}
 use Rattle.model.specs.Editor.{Held, Cache}
 use Rattle.model.specs.Write.{Going, Asking, scanned, unlinked, linked}
 use Rattle.model.specs.Order.{All}
 use Rattle.model.specs.Valid.{has_parent}
-use Rattle.store_slots.specs.View.{path_of, aside_of}
+use Rattle.store_slots.specs.View.{path_of, held_at, aside_of}
 use Rattle.store_slots.specs.declared.Record.{Record}
 use Rattle.store_slots.specs.declared.Store.{Store}
+use Rattle.store_slots.specs.declared.View.{View}
 use Rattle.editor_write_steps.specs.declared.pick.Picked.{Picked}
 use Rattle.editor_write_steps.specs.declared.pick.Picked.TheVariants.{Finish, Aside}
-use Rattle.store_taken.specs.Taken.{stacked_on, taken_off, SameSlots, Between}
+use Rattle.store_slots.specs.Stores.{held_in_slot}
+use Rattle.store_taken.specs.Taken.{going_in, going_of, stacked_on, taken_off, SameSlots, Between}
+
+-- the path and the tree of a slot, and the write with this record, of a store that is read
+abbrev pub held_seen : ℕ → View → ℕ → Held
+held_seen w v k = held_at w v.plens.now v.paths.now v.tlens.now v.trees.now k
+
+abbrev pub going_seen : ℕ → Record → View → List ℕ → Going
+going_seen w r v order = going_of w r v.plens.now v.paths.now v.tlens.now v.trees.now order
 
 -- a cached tree that was found is taken off the cache and stacked
-abbrev pub kid_on : Option Held → Going → Going
+abbrev pub kid_on : Maybe Held → Going → Going
 kid_on none g = g
 kid_on (some h) g = stacked_on h (taken_off h g)
 
@@ -56,19 +67,15 @@ turn_of (h ∷ s) k c = top_turn h (record { cache = c; stack = s; kept = k }) (
 abbrev pub turned : Going → Turn
 turned g = turn_of g.stack g.kept g.cache
 
--- whether the tree that was taken is to be finished, and its slot
-abbrev pub is_finish : Picked → Bool
-is_finish (Finish k) = true
-is_finish (Aside k) = false
-
-abbrev pub slot_in : Picked → ℕ
-slot_in (Finish k) = k
-slot_in (Aside k) = k
+-- the turn that took the tree in a slot
+abbrev pub turn_in : ℕ → Store → List ℕ → Picked → Turn
+turn_in w s order (Finish k) = record { finish = true; hand = held_in_slot w s k; rest = going_in w s order }
+turn_in w s order (Aside k) = record { finish = false; hand = held_in_slot w s k; rest = going_in w s order }
 
 -- the slot in hand after a turn
-abbrev pub hand_of : Bool → ℕ → List ℕ
-hand_of true k = k ∷ []
-hand_of false k = []
+abbrev pub hand_of : Picked → List ℕ
+hand_of (Finish k) = k ∷ []
+hand_of (Aside k) = []
 
 -- ---- the entry of a finished tree in its parent
 
@@ -93,9 +100,15 @@ pub data Step : Type 0 where
   goes : Going → Step
   asks : Held → Going → Step
 
-abbrev pub step_of : Bool → Held → Going → Step
-step_of true h g = asks h g
-step_of false h g = goes g
+-- the tree in a slot is requested, or none is
+abbrev pub step_in : ℕ → Store → List ℕ → Option ℕ → Step
+step_in w s order (Some k) = asks (held_in_slot w s k) (going_in w s order)
+step_in w s order None = goes (going_in w s order)
+
+-- the slot in hand then: the requested tree's
+abbrev pub hand_asked : Option ℕ → List ℕ
+hand_asked (Some k) = k ∷ []
+hand_asked None = []
 
 -- the tree in hand without its null-id entries is requested, unless it is empty and not the start tree
 abbrev pub finished_as : Bytes → Held → Going → Step

@@ -1,11 +1,11 @@
 // The entry of a finished tree in its parent, which is set aside.
-ghost use Rattle.std.specs.Prelude.{◌≡◌, true, List, [], ◌∷◌, ℕ, ◌≤◌, ◌<◌, length};
-ghost use Rattle.model.specs.Paths.{dir};
+ghost use Rattle.std.specs.Prelude.{◌≡◌, true, List, [], ◌∷◌, ℕ, ◌≤◌, ◌<◌, length, take};
+ghost use Rattle.model.specs.Paths.{base, dir};
 ghost use Rattle.model.specs.Editor.{fits};
-ghost use Rattle.store_runs.specs.Runs.{Sound};
-ghost use Rattle.store_slots.specs.View.{Laid, Used, SameWrite, path_of, view_of};
-ghost use Rattle.store_taken.specs.Taken.{going_of, Between};
-ghost use Rattle.editor_write_steps.specs.Writes.{unlinked_on, linked_on, Child};
+ghost use Rattle.store_slots.specs.View.{Used, SameWrite, path_of};
+ghost use Rattle.store_slots.specs.Stores.{KeysSound, LaidIn, SameKeys, SameLent, path_in_slot, view_in};
+ghost use Rattle.store_taken.specs.Taken.{going_in, Between};
+ghost use Rattle.editor_write_steps.specs.Writes.{unlinked_on, linked_on, ChildIn};
 
 use names::limits::NAME;
 use names::mode::EntryKind;
@@ -14,7 +14,7 @@ use store_slots::{Store, View};
 
 // The slot of the tree that the tree in a slot lies below.
 fn parent_of(v: View<'_>, slot: usize) -> usize
-    requires { Sound v.plens.now v.paths.now v.ed.paths × (length v.plens.now ≡ 64) × (slot < 64)
+    requires { KeysSound v × (length v.plens.now ≡ 64) × (slot < 64)
         × ((j : ℕ) × Used v.ed j × (path_of v.plens.now v.paths.now j ≡ dir (path_of v.plens.now v.paths.now slot))) }
     ensures { Used v.entry.ed result × (path_of v.entry.plens.now v.entry.paths.now result ≡ dir (path_of v.entry.plens.now v.entry.paths.now slot)) }
 {
@@ -22,10 +22,11 @@ fn parent_of(v: View<'_>, slot: usize) -> usize
     v.find_used(path).unwrap_or(slot)
 }
 
-// Writes the name of the tree in a slot to the front of the buffer, and says how long it is.
-fn put_name(name: &mut [u8; NAME], v: View<'_>, slot: usize) -> usize
-    requires { Sound v.plens.now v.paths.now v.ed.paths × (slot < length v.plens.now) × (length (base (path_of v.plens.now v.paths.now slot)) ≤ 255) }
-    ensures { (result ≡ length (base (path_of v.entry.plens.now v.entry.paths.now slot))) × (take result name.new ≡ base (path_of v.entry.plens.now v.entry.paths.now slot)) }
+// Copies the name of the tree in a slot to the front of a buffer, and says how long it is.
+fn copy_name(name: &mut [u8; NAME], v: View<'_>, slot: usize) -> usize
+    requires { KeysSound v × (slot < length v.plens.now) × (length (base (path_of v.plens.now v.paths.now slot)) ≤ 255) }
+    ensures { (result ≡ length (base (path_of v.entry.plens.now v.entry.paths.now slot)))
+        × (take result name.new ≡ base (path_of v.entry.plens.now v.entry.paths.now slot)) }
 {
     names::write::put(name, 0, names::path::filename(v.path_in(slot)))
 }
@@ -42,8 +43,9 @@ fn remove_entry(s: &mut Store<'_>, width: usize, slot: usize)
     ensures keys { SameKeys s.old s.new }
 {
     let mut name = [0u8; NAME];
-    let n = put_name(&mut name, s.view(), slot);
-    let parent = parent_of(s.view(), slot);
+    let v = s.view();
+    let n = copy_name(&mut name, v, slot);
+    let parent = parent_of(v, slot);
     store_entries::remove(s, width, parent, &name[..n]);
 }
 
@@ -74,8 +76,9 @@ fn set_entry(s: &mut Store<'_>, width: usize, slot: usize, id: &[u8])
     ensures keys { SameKeys s.old s.new }
 {
     let mut name = [0u8; NAME];
-    let n = put_name(&mut name, s.view(), slot);
-    let parent = parent_of(s.view(), slot);
+    let v = s.view();
+    let n = copy_name(&mut name, v, slot);
+    let parent = parent_of(v, slot);
     let entry = Entry {
         kind: EntryKind::Tree,
         name: &name[..n],

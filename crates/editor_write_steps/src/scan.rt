@@ -1,26 +1,28 @@
 // The scan of a taken tree: the cached trees under its tree entries are taken off the cache and stacked.
-ghost use Rattle.std.specs.Prelude.{◌≡◌, cond, List, [], ◌∷◌, ℕ, ◌≤◌, ◌<◌, length, take};
+ghost use Rattle.std.specs.Prelude.{◌≡◌, cond, List, [], ◌∷◌, ℕ, ◌≤◌, length, take};
 ghost use Rattle.std.proofs.Math.Option.{none};
 ghost use Rattle.model.specs.Bytes.{Bytes};
 ghost use Rattle.model.specs.Map.{find};
 ghost use Rattle.model.specs.Paths.{join};
 ghost use Rattle.model.specs.Editor.{at};
-ghost use Rattle.names_compact.specs.Compact.{Run, unpack, offset, entry_at};
-ghost use Rattle.store_runs.specs.Runs.{Sound};
-ghost use Rattle.store_slots.specs.View.{Laid, held_at, path_of, cached_of};
+ghost use Rattle.names_compact.specs.Compact.{unpack};
+ghost use Rattle.store_slots.specs.View.{Laid, path_of, cached_of};
+ghost use Rattle.store_slots.specs.Stores.{KeysSound, LaidSeen};
 ghost use Rattle.store_taken.specs.Taken.{going_of, Between};
 ghost use Rattle.names.specs.Fronts.{lead};
-ghost use Rattle.editor_write_steps.specs.Writes.{kid_on, scanned_on, Stacks};
+ghost use Rattle.editor_write_steps.specs.Writes.{going_seen, held_seen, kid_on, scanned_on, Stacks};
 
 use names::limits::FULL;
-use store_slots::{Found, Record};
+use names_compact::compact::Tree;
+use store_slots::{Record, View};
 
 // Takes the cached tree at a path off the cache and stacks it, if the path is a tree entry's and one is cached there.
 fn take_kid(v: View<'_>, order: &mut [u64], path: &[u8], is_tree: bool) -> Record
-    requires { Sound v.plens.now v.paths.now v.ed.paths × (length v.plens.now ≡ 64) × ((hand : List ℕ) × Between v.ed order.old hand) }
+    requires { KeysSound v × (length v.plens.now ≡ 64) × ((hand : List ℕ) × Between v.ed order.old hand) }
     ensures going { (w : ℕ) (tlens trees : List ℕ) → Laid w v.entry.ed v.entry.plens.now v.entry.paths.now tlens trees →
         going_of w result v.entry.plens.now v.entry.paths.now tlens trees order.new
-        ≡ kid_on (cond is_tree (find at path.now (cached_of w v.entry.ed v.entry.plens.now v.entry.paths.now tlens trees)) none) (going_of w v.entry.ed v.entry.plens.now v.entry.paths.now tlens trees order.old) }
+        ≡ kid_on (cond is_tree (find at path.now (cached_of w v.entry.ed v.entry.plens.now v.entry.paths.now tlens trees)) none)
+        (going_of w v.entry.ed v.entry.plens.now v.entry.paths.now tlens trees order.old) }
     ensures between { (hand : List ℕ) → Between v.entry.ed order.old hand → Between result order.new hand }
     ensures same { Stacks v.entry.ed result }
 {
@@ -44,11 +46,12 @@ fn put_name(buf: &mut [u8; FULL], n: usize, name: &[u8]) -> usize
 
 // Scans the entries of the tree at a path.
 fn scan_entries(v: View<'_>, order: &mut [u64], prefix: &[u8], tree: Tree<'_>) -> Record
-    requires { Sound v.plens.now v.paths.now v.ed.paths × (length v.plens.now ≡ 64) × ((hand : List ℕ) × Between v.ed order.old hand)
-        × (length prefix.now ≤ 1024) × Run width tree.now × (width ≤ 64) }
-    ensures going { (tlens trees : List ℕ) → Laid width v.entry.ed v.entry.plens.now v.entry.paths.now tlens trees →
-        going_of width result v.entry.plens.now v.entry.paths.now tlens trees order.new
-        ≡ scanned_on prefix.now (unpack width tree.now) (going_of width v.entry.ed v.entry.plens.now v.entry.paths.now tlens trees order.old) }
+    requires { KeysSound v × (length v.plens.now ≡ 64) × ((hand : List ℕ) × Between v.ed order.old hand)
+        × (length prefix.now ≤ 1024) }
+    ensures going { (w : ℕ) (tlens trees : List ℕ) → Laid w v.entry.ed v.entry.plens.now v.entry.paths.now tlens trees →
+        going_of w result v.entry.plens.now v.entry.paths.now tlens trees order.new
+        ≡ scanned_on prefix.now (unpack tree.entry.width tree.entry.bytes.now)
+        (going_of w v.entry.ed v.entry.plens.now v.entry.paths.now tlens trees order.old) }
     ensures between { (hand : List ℕ) → Between v.entry.ed order.old hand → Between result order.new hand }
     ensures same { Stacks v.entry.ed result }
 {
@@ -66,9 +69,8 @@ fn scan_entries(v: View<'_>, order: &mut [u64], prefix: &[u8], tree: Tree<'_>) -
 // Scans the tree in hand.
 pub fn scan(v: View<'_>, order: &mut [u64], width: usize, slot: usize) -> Record
     requires { LaidSeen width v × (width ≤ 64) × Between v.ed order.old (slot ∷ []) × (length (path_of v.plens.now v.paths.now slot) ≤ 1024) }
-    ensures going { going_of width result v.entry.plens.now v.entry.paths.now v.entry.tlens.now v.entry.trees.now order.new
-        ≡ scanned_on (held_at width v.entry.plens.now v.entry.paths.now v.entry.tlens.now v.entry.trees.now slot).path (held_at width v.entry.plens.now v.entry.paths.now v.entry.tlens.now v.entry.trees.now slot).held
-        (going_of width v.entry.ed v.entry.plens.now v.entry.paths.now v.entry.tlens.now v.entry.trees.now order.old) }
+    ensures going { going_seen width result v.entry order.new
+        ≡ scanned_on (held_seen width v.entry slot).path (held_seen width v.entry slot).held (going_seen width v.entry.ed v.entry order.old) }
     ensures between { Between result order.new (slot ∷ []) }
     ensures same { Stacks v.entry.ed result }
 {

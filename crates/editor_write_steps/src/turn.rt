@@ -2,9 +2,10 @@
 ghost use Rattle.std.specs.Prelude.{◌≡◌, not, ◌&&◌, List, [], ◌∷◌, ℕ, ◌≤◌, eqb};
 ghost use Rattle.model.specs.Tree.{null};
 ghost use Rattle.model.specs.Write.{asking};
-ghost use Rattle.store_slots.specs.View.{Laid, SameWrite, held_at};
-ghost use Rattle.store_taken.specs.Taken.{going_of, Between};
-ghost use Rattle.editor_write_steps.specs.Writes.{step_of, finished_as, next_of, hand_of, Hand, Ready, Steady, asks_on};
+ghost use Rattle.store_slots.specs.View.{SameWrite};
+ghost use Rattle.store_slots.specs.Stores.{LaidIn, SameLent, held_in_slot};
+ghost use Rattle.store_taken.specs.Taken.{going_in, Between};
+ghost use Rattle.editor_write_steps.specs.Writes.{step_in, finished_as, next_of, hand_asked, HandIn, Ready, Steady, asks_on};
 
 use crate::pick::Picked;
 use store_slots::Store;
@@ -16,12 +17,12 @@ fn is_dropped(len: u64, aside: usize) -> bool
     len == 0 && aside != 0
 }
 
-// Finishes the tree in hand: its null-id entries go; it is to be requested then, unless it is empty and not the start tree.
-fn finish(s: &mut Store<'_>, width: usize, slot: usize) -> Picked
+// Finishes the tree in hand: its null-id entries go; it is to be requested then, unless it is empty and not the start tree. Gives its slot if it is.
+fn finish(s: &mut Store<'_>, width: usize, slot: usize) -> Option<usize>
     requires { LaidIn width s.old × (width ≤ 64) × ((order : List ℕ) × HandIn width s.old order slot) }
-    ensures step { (order : List ℕ) → HandIn width s.old order slot → step_of (is_finish result) (held_in_slot width s.new (slot_in result)) (going_in width s.new order)
+    ensures step { (order : List ℕ) → HandIn width s.old order slot → step_in width s.new order result
         ≡ finished_as (null width) (held_in_slot width s.old slot) (going_in width s.old order) }
-    ensures between { (order : List ℕ) → HandIn width s.old order slot → Between s.new.ed order (hand_of (is_finish result) (slot_in result)) }
+    ensures between { (order : List ℕ) → HandIn width s.old order slot → Between s.new.ed order (hand_asked result) }
     ensures laid { LaidIn width s.new }
     ensures same { SameWrite s.old.ed s.new.ed }
     ensures lent { SameLent s.old s.new }
@@ -29,25 +30,25 @@ fn finish(s: &mut Store<'_>, width: usize, slot: usize) -> Picked
     store_trees::nulls::drop_null(s, width, slot);
     if is_dropped(s.tlens[slot], s.ed.aside) {
         crate::links::unlink(s, width, slot);
-        Picked::Aside(slot)
+        None
     } else {
-        Picked::Finish(slot)
+        Some(slot)
     }
 }
 
-// One turn: the next tree is taken, and finished or set aside. Says whether it is to be requested.
-pub fn next(s: &mut Store<'_>, order: &mut [u64], width: usize) -> Picked
+// One turn: the next tree is taken, and finished or set aside. Gives its slot if it is to be requested.
+pub fn next(s: &mut Store<'_>, order: &mut [u64], width: usize) -> Option<usize>
     requires { LaidIn width s.old × (width ≤ 64) × Between s.old.ed order.old [] × Ready (going_in width s.old order.old) }
-    ensures step { step_of (is_finish result) (held_in_slot width s.new (slot_in result)) (going_in width s.new order.new)
+    ensures step { step_in width s.new order.new result
         ≡ next_of (null width) (going_in width s.old order.old) }
-    ensures between { Between s.new.ed order.new (hand_of (is_finish result) (slot_in result)) }
+    ensures between { Between s.new.ed order.new (hand_asked result) }
     ensures laid { LaidIn width s.new }
     ensures same { s.new.ed.«open» ≡ s.old.ed.«open» }
     ensures lent { SameLent s.old s.new }
 {
     match crate::pick::pick(s, order, width) {
         Picked::Finish(slot) => finish(s, width, slot),
-        aside => aside,
+        Picked::Aside(_) => None,
     }
 }
 
@@ -62,7 +63,7 @@ pub fn onward(s: &mut Store<'_>, order: &mut [u64], width: usize) -> usize
     ensures lent { SameLent s.old s.new }
 {
     loop {
-        if let Picked::Finish(slot) = next(s, order, width) {
+        if let Some(slot) = next(s, order, width) {
             return slot;
         }
     }

@@ -2,26 +2,18 @@
 use mathlib.Core.Path.{◌≡◌, sym, ap, ◌∙◌}
 use native.Mathlib.Omega.{arith}
 use Rattle.model.specs.Paths.{dir}
+use Rattle.store_runs.specs.Digits.{digits}
+use Rattle.store_runs.specs.Runs.{cut}
+use Rattle.store_runs.specs.Find.{find_from}
 use Rattle.store_runs.proofs.FindLaws.{cut_at}
 use Rattle.store_slots.specs.View.{path_of}
-use Rattle.editor_write_steps.proofs.LinkLaws.{found_slot, some_slot}
+use Rattle.editor_write_steps.proofs.LinkLaws.{slot_at}
 use Rattle.editor_write_steps.proofs.links.parent_of.Goals as goal
 
--- the parent's path was read
-path-read : (c : goal.In-At) → c.parent-path.result.now ≡ dir (path_of c.args.plens.now c.args.paths.now c.args.slot)
-path-read c = c.parent-path.ensures ∙ ap dir (c.path_in.ensures ∙ sym (cut_at c.args.plens.now c.args.paths.now c.args.slot (omega (arith, c.requires.1, c.requires.2))))
-
-pub returns-in-At : goal.returns-in-At
-returns-in-At c =
-    let a = c.args in
-    let z = found_slot a.r a.plens.now a.paths.now c.parent-path.result.now c.find_used.result c.in-At.k c.requires.1 c.find_used.ensures c.in-At.is in
-    (z.0, z.1 ∙ path-read c)
-
--- the parent's path was read
-path-read-2 : (c : goal.In-Nothing) → c.parent-path.result.now ≡ dir (path_of c.args.plens.now c.args.paths.now c.args.slot)
-path-read-2 c = c.parent-path.ensures ∙ ap dir (c.path_in.ensures ∙ sym (cut_at c.args.plens.now c.args.paths.now c.args.slot (omega (arith, c.requires.1, c.requires.2))))
-
-pub returns-in-Nothing : goal.returns-in-Nothing
-returns-in-Nothing c =
-    let a = c.args in
-    some_slot a.r a.plens.now a.paths.now c.parent-path.result.now c.find_used.result c.requires.3.0 c.requires.1 c.find_used.ensures c.in-Nothing.is c.requires.3.1 (c.requires.3.2 ∙ sym (path-read-2 c))
+pub returns : goal.returns
+returns c =
+    let v = c.args.v in
+    let p = path_of v.plens.now v.paths.now c.args.slot in
+    let read : c.parent-path.result.now ≡ dir p =
+    c.parent-path.ensures ∙ ap dir (c.path_in.ensures ∙ sym (cut_at v.plens.now v.paths.now c.args.slot (omega (arith, c.requires.1, c.requires.2)))) in
+    rw (c.unwrap_or.ensures) (slot_at v.ed v.plens.now v.paths.now (dir p) c.find_used.result c.args.slot c.requires.1 (c.find_used.ensures ∙ ap (find_from 0 (digits 64 v.ed.free) (cut v.plens.now v.paths.now)) read) c.requires.3)

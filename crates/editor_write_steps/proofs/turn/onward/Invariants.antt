@@ -1,13 +1,14 @@
-use mathlib.Core.Bool.{cond}
-use Prim.Native.Nat.{suc}
 use Rattle.model.specs.Tree.{null}
 use Rattle.model.specs.Write.{asking}
-use Rattle.store_taken.specs.Taken.{going_of}
+use Rattle.store_slots.specs.Stores.{SameLent}
+use Rattle.store_taken.specs.Taken.{going_in}
 use Rattle.editor_write_steps.proofs.OnwardLaws.{weight, Onward}
 use Rattle.editor_write_steps.proofs.turn.onward.Given as goal
 
-abbrev pub invariant-loop-done : goal.invariant-loop-done
-invariant-loop-done l = Onward l.width (asking (null l.width) (going_of l.width l.initial.ed l.initial.plens l.initial.paths l.initial.tlens l.initial.trees l.initial.order).stack (going_of l.width l.initial.ed l.initial.plens l.initial.paths l.initial.tlens l.initial.trees l.initial.order).kept (going_of l.width l.initial.ed l.initial.plens l.initial.paths l.initial.tlens l.initial.trees l.initial.order).cache) l.initial.ed.«open» l.ed l.plens l.paths l.tlens l.trees l.order l.slot l.done
+abbrev pub invariant-loop-slot : goal.invariant-loop-slot
+invariant-loop-slot l =
+    let g = going_in l.width l.initial.s l.initial.order in
+    Onward l.width (asking (null l.width) g.stack g.kept g.cache) l.initial.s.ed.«open» l.s.ed l.s.plens.now l.s.paths.now l.s.tlens.now l.s.trees.now l.order × SameLent l.initial.s l.s
 
-abbrev pub decreases-loop-done : goal.decreases-loop-done
-decreases-loop-done l = cond l.done 0 (suc (weight (going_of l.width l.ed l.plens l.paths l.tlens l.trees l.order)))
+abbrev pub decreases-loop-slot : goal.decreases-loop-slot
+decreases-loop-slot l = weight (going_in l.width l.s l.order)
