@@ -1,31 +1,24 @@
 // Lookups: the entry at a path, from the tree in a slot, going down through cached trees only.
-ghost use Rattle.std.specs.Prelude.{◌≡◌, true, false, length};
+ghost use Rattle.std.specs.Prelude.{◌≡◌, true, false, length, Ok};
 ghost use Rattle.model.specs.Bytes.{has};
 ghost use Rattle.model.specs.Tree.{well_formed};
 ghost use Rattle.model.specs.Paths.{components, base, full as fullPath};
 ghost use Rattle.model.specs.Lookup.{look as looked_up};
 ghost use Rattle.names_compact.specs.Compact.{unpack, Run};
 ghost use Rattle.store_runs.specs.Digits.{digits};
-ghost use Rattle.store_runs.specs.Runs.{cut, Sound};
-ghost use Rattle.store_slots.specs.View.{view_of, Laid, Used, path_of};
+ghost use Rattle.store_runs.specs.Runs.{cut};
+ghost use Rattle.store_slots.specs.View.{view_of, Used, path_of};
+ghost use Rattle.store_slots.specs.Stores.{KeysSound, LaidSeen};
 ghost use Rattle.editor_walk.specs.Lookups.{looked_as, LookStepIs};
 
 use editor_terms::edit::Seen;
 use std::ops::ControlFlow;
-use store_slots::Record;
+use store_slots::View;
 
 // A lookup at one component of the path, `name`: it is over, or goes on in a slot; `below` is the path of the tree below it.
-fn look_in(
-    ed: Record,
-    plens: &[u64],
-    paths: &[u8],
-    tree: &[u8],
-    below: &[u8],
-    name: &[u8],
-    last: bool,
-) -> ControlFlow<Option<Seen>, usize>
-    requires { Sound plens.now paths.now ed.paths × (length plens.now ≡ 64) × Run 20 tree.now × (well_formed 20 (unpack 20 tree.now) ≡ true) × (has 47 name.now ≡ false) }
-    ensures { LookStepIs (digits 64 ed.hidden) (cut plens.now paths.now) (unpack 20 tree.now) below.now name.now «last» result }
+fn look_in(v: View<'_>, tree: &[u8], below: &[u8], name: &[u8], last: bool) -> ControlFlow<Option<Seen>, usize>
+    requires { KeysSound v × (length v.plens.now ≡ 64) × Run 20 tree.now × (well_formed 20 (unpack 20 tree.now) ≡ true) × (has 47 name.now ≡ false) }
+    ensures { LookStepIs (digits 64 v.entry.ed.hidden) (cut v.entry.plens.now v.entry.paths.now) (unpack 20 tree.now) below.now name.now «last» result }
 {
     let Some(seen) = crate::seen::seen_in(tree, name, true) else {
         return ControlFlow::Break(None);
@@ -36,26 +29,17 @@ fn look_in(
     if !seen.kind.is_tree() {
         return ControlFlow::Break(None);
     }
-    match store_slots::find(ed, plens, paths, below) {
+    match v.find(below) {
         Some(slot) => ControlFlow::Continue(slot),
         None => ControlFlow::Break(None),
     }
 }
 
 // The entry at a path below the tree in a slot; `full` is that tree's path with the path. A path of no bytes has none.
-pub fn look(
-    ed: Record,
-    plens: &[u64],
-    paths: &[u8],
-    tlens: &[u64],
-    trees: &[u8],
-    full: &[u8],
-    path: &[u8],
-    slot: usize,
-) -> Option<Seen>
-    requires { Laid 20 ed plens.now paths.now tlens.now trees.now × (ed.hidden ≡ ed.free) × Used ed slot × (full.now ≡ fullPath (path_of plens.now paths.now slot) path.now) }
+pub fn look(v: View<'_>, full: &[u8], path: &[u8], slot: usize) -> Option<Seen>
+    requires { LaidSeen 20 v × (v.ed.hidden ≡ v.ed.free) × Used v.ed slot × (full.now ≡ fullPath (path_of v.plens.now v.paths.now slot) path.now) }
     ensures { looked_as (base path.now) (Ok result)
-        ≡ looked_up (components path.now) (path_of plens.now paths.now slot) (view_of 20 ed plens.now paths.now tlens.now trees.now) }
+        ≡ looked_up (components path.now) (path_of v.entry.plens.now v.entry.paths.now slot) (view_of 20 v.entry.ed v.entry.plens.now v.entry.paths.now v.entry.tlens.now v.entry.trees.now) }
 {
     if path.len() == 0 {
         return None;
@@ -66,10 +50,10 @@ pub fn look(
         let k = names::path::component_len(p);
         let last = k == p.len();
         let end = full.len() - p.len() + k;
-        let tree = store_slots::tree_in(ed, tlens, trees, at);
+        let tree = v.tree_in(at);
         let below = names::part::front(full, end);
         let name = names::part::front(p, k);
-        match look_in(ed, plens, paths, tree, below, name, last) {
+        match look_in(v, tree, below, name, last) {
             ControlFlow::Break(found) => {
                 return found;
             }
