@@ -50,16 +50,22 @@ pub record SeenAt (tlens trees : List ℕ) (level : Level) (name : Bytes) (r : O
 
 -- g says of a step how the measure goes on: whatever comes after it, a limit is passed, and the number is 5; or the walk stops with the number and all is
 -- kept; or what comes after it decides, from the tree at its level and its counts, which are within the limits
-abbrev pub StepIs : List ℕ → List ℕ → ((Tree → Counts → Measured) → Measured) → Result (ControlFlow Answer Stage) Refusal → Type 0
-StepIs tlens trees m (Err refusal) = (refusal_number refusal ≡ 5) × ((next : Tree → Counts → Measured) → (m next).kept ≡ false)
-StepIs tlens trees m (Ok (Break answer)) = (next : Tree → Counts → Measured) → m next ≡ over (code_number answer)
-StepIs tlens trees m (Ok (Continue stage)) =
+abbrev pub StepSays : List ℕ → List ℕ → ((Tree → Counts → Measured) → Measured) → Result (ControlFlow Answer Stage) Refusal → Type 0
+StepSays tlens trees m (Err refusal) = (refusal_number refusal ≡ 5) × ((next : Tree → Counts → Measured) → (m next).kept ≡ false)
+StepSays tlens trees m (Ok (Break answer)) = (next : Tree → Counts → Measured) → m next ≡ over (code_number answer)
+StepSays tlens trees m (Ok (Continue stage)) =
     (t : Tree) × Stands tlens trees stage.level t × (within (counts_as stage.counts) ≡ true) × ((next : Tree → Counts → Measured) → m next ≡ next t (counts_as stage.counts))
 
+pub record StepIs (tlens trees : List ℕ) (m : (Tree → Counts → Measured) → Measured) (g : Result (ControlFlow Answer Stage) Refusal) : Type 0 where
+  pub says : StepSays tlens trees m g
+
 -- r is what the model's measure m says: that the limits are kept, and the number that the edit ends with; or that they are not, and the number is 5
-abbrev pub MeasuredAs : Measured → Result Answer Refusal → Type 0
-MeasuredAs m (Ok answer) = (m.kept ≡ true) × (code_number answer ≡ m.code)
-MeasuredAs m (Err refusal) = (m.kept ≡ false) × (refusal_number refusal ≡ 5)
+abbrev pub MeasureSays : Measured → Result Answer Refusal → Type 0
+MeasureSays m (Ok answer) = (m.kept ≡ true) × (code_number answer ≡ m.code)
+MeasureSays m (Err refusal) = (m.kept ≡ false) × (refusal_number refusal ≡ 5)
+
+pub record MeasuredAs (m : Measured) (r : Result Answer Refusal) : Type 0 where
+  pub says : MeasureSays m r
 
 -- a step that goes on where nothing stops it
 abbrev pub onward : Result Stage Refusal → Result (ControlFlow Answer Stage) Refusal

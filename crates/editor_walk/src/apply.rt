@@ -46,7 +46,11 @@ fn apply(s: &mut Store<'_>, name: &[u8], slot: usize, turn: Turn)
 }
 
 // Goes down to the path below: what is to be cached there is cached.
-fn descend(s: &mut Store<'_>, below: &[u8], landing: Landing<'_>) -> ControlFlow<Result<(), Refusal>, usize>
+fn descend(
+    s: &mut Store<'_>,
+    below: &[u8],
+    landing: Landing<'_>,
+) -> ControlFlow<Result<(), Refusal>, usize>
     requires { LaidIn 20 s.old × (s.old.ed.hidden ≡ s.old.ed.free) × LandFits s.old below.now landing }
     ensures done { Descended s.old below.now landing.entry result s.new }
     ensures lent { SameLent s.old s.new }
@@ -63,7 +67,12 @@ fn descend(s: &mut Store<'_>, below: &[u8], landing: Landing<'_>) -> ControlFlow
 }
 
 // The step down after a turn.
-fn go_down(s: &mut Store<'_>, task: Task<'_>, below: &[u8], turn: Turn) -> ControlFlow<Result<(), Refusal>, usize>
+fn go_down(
+    s: &mut Store<'_>,
+    task: Task<'_>,
+    below: &[u8],
+    turn: Turn,
+) -> ControlFlow<Result<(), Refusal>, usize>
     requires { LaidIn 20 s.old × (s.old.ed.hidden ≡ s.old.ed.free) × Fitting (down_for task below.now (wanted_by turn) (view_in 20 s.old)) }
     ensures done { SteppedAs s.old.ed (down_for task.entry below.now (wanted_by turn) (view_in 20 s.old)) below.now result s.new }
     ensures lent { SameLent s.old s.new }
@@ -86,7 +95,14 @@ fn seen_for(tree: &[u8], name: &[u8], edit: Edit, last: bool) -> Option<Seen>
 }
 
 // One step: the edit at the component `name` of the tree in a slot, with the path `below` of the tree below it. It ends the walk with an answer, or the walk goes on in a slot.
-fn step(s: &mut Store<'_>, task: Task<'_>, below: &[u8], name: &[u8], last: bool, slot: usize) -> ControlFlow<Result<(), Refusal>, usize>
+fn step(
+    s: &mut Store<'_>,
+    task: Task<'_>,
+    below: &[u8],
+    name: &[u8],
+    last: bool,
+    slot: usize,
+) -> ControlFlow<Result<(), Refusal>, usize>
     requires { LaidIn 20 s.old × (s.old.ed.hidden ≡ s.old.ed.free) × Used s.old.ed slot
         × ((length name.now ≡ 0 → ⊥) → good_name name.now ≡ true)
         × Fitting (step_for task «last» (path_in_slot s.old slot) below.now name.now (view_in 20 s.old)) }
@@ -106,7 +122,13 @@ fn step(s: &mut Store<'_>, task: Task<'_>, below: &[u8], name: &[u8], last: bool
 }
 
 // The walk of an edit whose steps each fit, from the tree in a slot; `full` is that tree's path with the path.
-pub fn walk(s: &mut Store<'_>, task: Task<'_>, full: &[u8], path: &[u8], slot: usize) -> Result<(), Refusal>
+pub fn walk(
+    s: &mut Store<'_>,
+    task: Task<'_>,
+    full: &[u8],
+    path: &[u8],
+    slot: usize,
+) -> Result<(), Refusal>
     requires { LaidIn 20 s.old × (s.old.ed.hidden ≡ s.old.ed.free) × Used s.old.ed slot
         × (full.now ≡ fullPath (path_in_slot s.old slot) path.now) × (refused (path_in_slot s.old slot) path.now ≡ false)
         × ((walk_for task (components path.now) (path_in_slot s.old slot) (view_in 20 s.old)).kept ≡ true) }
@@ -140,7 +162,15 @@ pub fn walk(s: &mut Store<'_>, task: Task<'_>, full: &[u8], path: &[u8], slot: u
 }
 
 // Both passes: the walk of an edit, if each of its steps keeps the limits; else nothing is changed.
-pub fn settle(s: &mut Store<'_>, table: Objects<'_>, full: &[u8], path: &[u8], edit: Edit, opening: bool, slot: usize) -> Result<(), Refusal>
+pub fn settle(
+    s: &mut Store<'_>,
+    table: Objects<'_>,
+    full: &[u8],
+    path: &[u8],
+    edit: Edit,
+    opening: bool,
+    slot: usize,
+) -> Result<(), Refusal>
     requires { LaidIn 20 s.old × (s.old.ed.hidden ≡ s.old.ed.free) × Used s.old.ed slot
         × (full.now ≡ fullPath (path_in_slot s.old slot) path.now) × (refused (path_in_slot s.old slot) path.now ≡ false)
         × (valid sha1 (editor_at (view_in 20 s.old)) ≡ true) }
@@ -155,8 +185,6 @@ pub fn settle(s: &mut Store<'_>, table: Objects<'_>, full: &[u8], path: &[u8], e
         opening,
     };
     let measured = crate::measure::measure(s.view(), task, full, path, slot);
-    if let Err(refusal) = measured {
-        return Err(refusal);
-    }
+    let _ = measured?;
     walk(s, task, full, path, slot)
 }

@@ -66,7 +66,13 @@ fn land_new(table: Objects<'_>, wanted: Option<Id>, leaf: bool) -> Landing<'_>
 }
 
 // What going down to the path `below` finds.
-pub fn land<'a>(v: View<'_>, table: Objects<'a>, below: &[u8], wanted: Option<Id>, leaf: bool) -> Landing<'a>
+pub fn land<'a>(
+    v: View<'_>,
+    table: Objects<'a>,
+    below: &[u8],
+    wanted: Option<Id>,
+    leaf: bool,
+) -> Landing<'a>
     requires { KeysSound v × (length v.plens.now ≡ 64) }
     ensures { LandsAs (planned sha1 (objects_in table.entry) «leaf» (wanted_as wanted))
         (digits 64 v.entry.ed.hidden) (cut v.entry.plens.now v.entry.paths.now) below.now result }

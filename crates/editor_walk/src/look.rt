@@ -16,7 +16,13 @@ use std::ops::ControlFlow;
 use store_slots::View;
 
 // A lookup at one component of the path, `name`: it is over, or goes on in a slot; `below` is the path of the tree below it.
-fn look_in(v: View<'_>, tree: &[u8], below: &[u8], name: &[u8], last: bool) -> ControlFlow<Option<Seen>, usize>
+fn look_in(
+    v: View<'_>,
+    tree: &[u8],
+    below: &[u8],
+    name: &[u8],
+    last: bool,
+) -> ControlFlow<Option<Seen>, usize>
     requires { KeysSound v × (length v.plens.now ≡ 64) × Run 20 tree.now × (well_formed 20 (unpack 20 tree.now) ≡ true) × (has 47 name.now ≡ false) }
     ensures { LookStepIs (digits 64 v.entry.ed.hidden) (cut v.entry.plens.now v.entry.paths.now) (unpack 20 tree.now) below.now name.now «last» result }
 {

@@ -65,7 +65,11 @@ fn cached<'a>(level: Level<'a>, size: Size, n: usize, u: Counts) -> Result<Stage
 }
 
 // A step that goes down to a path of n bytes: it ends the walk with an answer, or goes on; refused where it passes a limit.
-fn landed<'a>(landing: Landing<'a>, n: usize, u: Counts) -> Result<ControlFlow<Result<(), Refusal>, Stage<'a>>, Refusal>
+fn landed<'a>(
+    landing: Landing<'a>,
+    n: usize,
+    u: Counts,
+) -> Result<ControlFlow<Result<(), Refusal>, Stage<'a>>, Refusal>
     requires { (withinLimits (counts_as u) ≡ true) × (n ≤ 1280) }
     ensures { LandedAs landing.entry n (counts_as u) result }
 {
@@ -90,7 +94,13 @@ fn landed<'a>(landing: Landing<'a>, n: usize, u: Counts) -> Result<ControlFlow<R
 }
 
 // The step down after a turn, to the path `below`.
-fn go_down<'a>(v: View<'_>, task: Task<'a>, below: &[u8], turn: Turn, u: Counts) -> Result<ControlFlow<Result<(), Refusal>, Stage<'a>>, Refusal>
+fn go_down<'a>(
+    v: View<'_>,
+    task: Task<'a>,
+    below: &[u8],
+    turn: Turn,
+    u: Counts,
+) -> Result<ControlFlow<Result<(), Refusal>, Stage<'a>>, Refusal>
     requires { KeysSound v × (length v.plens.now ≡ 64) × (withinLimits (counts_as u) ≡ true) × (length below.now ≤ 1280) }
     ensures { (tlens trees : List ℕ) → length tlens ≡ 64 → StepIs tlens trees
         (down_as (table_for task.entry) (edit_for task.entry) below.now (wanted_by turn) (cached_of 20 v.entry.ed v.entry.plens.now v.entry.paths.now tlens trees) (counts_as u)) result }
@@ -134,7 +144,13 @@ fn step<'a>(
 }
 
 // The answer of an edit whose steps each keep the limits, from the tree in a slot; else the refusal. `full` is that tree's path with the path.
-pub fn measure(v: View<'_>, task: Task<'_>, full: &[u8], path: &[u8], slot: usize) -> Result<Result<(), Refusal>, Refusal>
+pub fn measure(
+    v: View<'_>,
+    task: Task<'_>,
+    full: &[u8],
+    path: &[u8],
+    slot: usize,
+) -> Result<Result<(), Refusal>, Refusal>
     requires { LaidSeen 20 v × (v.ed.hidden ≡ v.ed.free) × (fits (view_seen v) ≡ true)
         × Used v.ed slot × (full.now ≡ fullPath (path_seen v slot) path.now) × (length full.now ≤ 1280) }
     ensures { MeasuredAs (measure_for task.entry (path_seen v.entry slot) path.now (view_seen v.entry)) result }
