@@ -1,11 +1,9 @@
 -- `editor_walk::apply::walk` meets its contract: what is left of the path decides, from the store as it is. Assumes nothing.
-use Prim.Native.Nat.{◌+◌}
-use mathlib.Core.Path.{refl, ap, ◌∙◌}
+use mathlib.Core.Path.{refl, ◌∙◌}
 use native.Mathlib.Omega.{arith}
-use lib.ListN.{length, length-drop}
 use Rattle.names.proofs.FrontLaws.{front_long, piece_short}
 use Rattle.editor_walk.specs.Tasks.{edit_for, table_for}
-use Rattle.editor_walk.proofs.WalkLaws.{walk_empty, walk_begin, walk_fits, walk_good, walk_over, walk_last, walk_shorter, walk_next}
+use Rattle.editor_walk.proofs.WalkLaws.{walk_empty, walk_begin, walk_fits, walk_good, walk_over, walk_last, walk_next}
 use Rattle.editor_walk.proofs.apply.walk.Goals as goal
 
 pub returns-then-path-eq0-clause-done : goal.returns-then-path-eq0-clause-done

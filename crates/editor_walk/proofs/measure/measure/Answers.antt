@@ -3,7 +3,7 @@ use Prim.Native.Nat.{◌+◌, ◌-◌}
 use mathlib.Core.Path.{refl, ap, ◌∙◌}
 use native.Mathlib.Omega.{arith}
 use Rattle.std.specs.Prelude.{Ok}
-use lib.ListN.{length, length-drop}
+use lib.ListN.{length}
 use lib.Seq.{length-take-le}
 use Rattle.model.specs.Bytes.{has}
 use Rattle.store_slots.proofs.Cached.{cached_view}
@@ -11,7 +11,7 @@ use Rattle.names.proofs.FrontLaws.{front_long, piece_short}
 use Rattle.editor_walk.specs.Counted.{counts_as}
 use Rattle.editor_walk.specs.Tasks.{edit_for, path_seen, table_for, view_seen}
 use Rattle.editor_walk.proofs.ComponentLaws.{piece_plain}
-use Rattle.editor_walk.proofs.MeasureLaws.{stored, passed_on, measure_empty, measure_begin, measure_past, measure_over, measure_last, measure_shorter, measure_next}
+use Rattle.editor_walk.proofs.MeasureLaws.{stored, passed_on, measure_empty, measure_begin, measure_past, measure_over, measure_last, measure_next}
 use Rattle.editor_walk.proofs.measure.measure.Goals as goal
 
 pub returns-then-path-eq0 : goal.returns-then-path-eq0
