@@ -5,7 +5,7 @@ use mathlib.Core.List.{List, []}
 use mathlib.Core.Bool.{Bool, true, false}
 use mathlib.Core.Option.{Option, none, some}
 use denote.Ref.{Bor}
-use Rattle.std.specs.Prelude.{Option as Opt, Some, None}
+use Rattle.std.specs.Prelude.{Option as Opt, Some, None, Err}
 use native.Mathlib.Omega.{arith}
 use lib.ListN.{length, get_or}
 use Rattle.model.specs.Bytes.{Bytes, same}
@@ -31,10 +31,9 @@ use Rattle.store_runs.proofs.DigitLaws.{length_digits}
 use Rattle.store_slots.specs.declared.Record.{Record}
 use Rattle.store_slots.specs.View.{view_of, cached_of, held_in, Laid, Used, path_of}
 use Rattle.store_slots.proofs.Cached.{cached_view}
-use Rattle.editor_terms.specs.Answers.{code_number}
+use Rattle.editor_terms.specs.Answers.{Answer, code_number}
 use Rattle.editor_terms.specs.Objects.{raw_as}
-use Rattle.editor_terms.specs.declared.code.Code.{Code}
-use Rattle.editor_terms.specs.declared.code.Code.TheVariants.{TreeNotFound, TreeDamaged}
+use Rattle.editor_terms.specs.declared.refusal.Refusal.TheVariants.{TreeNotFound, TreeDamaged}
 use Rattle.editor_walk.specs.Landings.{Plan, caches, stops, pick_plan, tree_plan, read_plan, planned, landed_by, entered_by, RawIs, PlanIs, SlotFound, LandsAs}
 use Rattle.editor_walk.specs.declared.land.Raw.{Raw}
 use Rattle.editor_walk.specs.declared.land.Landing.{Landing}
@@ -110,7 +109,7 @@ module _ (T : Table) (i : Bytes) (x : Opt (Bor Bytes)) (f : looked_up 20 T i ≡
   wanted : looked_up sha1.width T i ≡ raw_as x
   wanted = ap (λ (w : ℕ). looked_up w T i) wide ∙ f
 
-  pub plan_lost : x ≡ None → PlanIs (read_plan sha1 (looked_up sha1.width T i)) (Halt TreeNotFound)
+  pub plan_lost : x ≡ None → PlanIs (read_plan sha1 (looked_up sha1.width T i)) (Halt (Err TreeNotFound))
   plan_lost e = ap (read_plan sha1) (wanted ∙ ap raw_as e)
 
   module _ {raw : Bor Bytes} (e : x ≡ Some raw) where
@@ -118,7 +117,7 @@ module _ (T : Table) (i : Bytes) (x : Opt (Bor Bytes)) (f : looked_up 20 T i ≡
     plan_is = ap (read_plan sha1) (wanted ∙ ap raw_as e) ∙ ap (λ (w : ℕ). tree_plan (read_tree w raw.now)) wide
 
     module _ {c : Opt Size} (s : checked_as c ≡ size_of (read_tree 20 raw.now)) where
-      pub plan_broken : c ≡ None → PlanIs (read_plan sha1 (looked_up sha1.width T i)) (Halt TreeDamaged)
+      pub plan_broken : c ≡ None → PlanIs (read_plan sha1 (looked_up sha1.width T i)) (Halt (Err TreeDamaged))
       plan_broken b = plan_is ∙ ap tree_plan (size_none (read_tree 20 raw.now) (sym (ap checked_as b) ∙ s))
 
       pub plan_load : {size : Size} → c ≡ Some size → PlanIs (read_plan sha1 (looked_up sha1.width T i)) (Load (record { bytes = raw; size = size }))
@@ -139,7 +138,7 @@ pub lands_new : (x : Plan) (ds : List ℕ) (ps : List Bytes) (q : Bytes) (r : La
 lands_new x ds ps q (There slot) f p = absurd p
 lands_new x ds ps q Fresh f p = (f, p)
 lands_new x ds ps q (Load r) f p = (f, p)
-lands_new x ds ps q (Halt code) f p = (f, p)
+lands_new x ds ps q (Halt answer) f p = (f, p)
 
 -- for a caller: what the answer says, in a store with no write open
 module _ (T : Table) (e : Edit) (i : Option Bytes) {r : Record} {plens paths tlens trees : List ℕ} (L : Laid 20 r plens paths tlens trees) (cl : r.hidden ≡ r.free) (q : Bytes) (x : Landing)
@@ -178,7 +177,7 @@ module _ (T : Table) (e : Edit) (i : Option Bytes) {r : Record} {plens paths tle
       let g : LandsTo (Load y) = subst LandsTo h l in
       (none_there g.0, g.1)
 
-  pub halt_plan : {code : Code} → x ≡ Halt code → (find at q view ≡ none) × (planned sha1 T (is_leaf_removal e) i ≡ stops (code_number code))
-  halt_plan {code} h =
-      let g : LandsTo (Halt code) = subst LandsTo h l in
+  pub halt_plan : {answer : Answer} → x ≡ Halt answer → (find at q view ≡ none) × (planned sha1 T (is_leaf_removal e) i ≡ stops (code_number answer))
+  halt_plan {answer} h =
+      let g : LandsTo (Halt answer) = subst LandsTo h l in
       (none_there g.0, g.1)

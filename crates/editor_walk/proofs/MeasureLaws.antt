@@ -2,11 +2,13 @@
 use Prim.Native.Nat.{ℕ, ◌+◌, ◌-◌, ◌<◌}
 use mathlib.Core.Path.{◌≡◌, refl, sym, ap, ap₂, ◌∙◌, subst}
 use mathlib.Core.List.{List, [], ◌∷◌}
-use mathlib.Core.Bool.{Bool, true, false, not, ◌&&◌, ◌||◌}
+use mathlib.Core.Bool.{Bool, true, false, ◌&&◌}
 use mathlib.Core.Option.{Option, none}
-use Rattle.std.specs.Prelude.{Option as Opt}
+use Rattle.std.specs.Prelude.{Option as Opt, Result, Ok, Err, IsErrAnd}
+use Rattle.std.proofs.lemmas.Result.{err_from_is_err_and}
 use native.Mathlib.Omega.{arith}
 use lib.Dec.{eqb}
+use borrow.Author.Tests.{eq-eqb, ne_eqb}
 use lib.ListN.{length, take, drop}
 use Rattle.model.specs.Bytes.{Bytes, is_nil}
 use Rattle.model.specs.Map.{find}
@@ -32,10 +34,12 @@ use Rattle.store_slots.specs.View.{slots_of, gather, view_of, Laid, Used, path_o
 use Rattle.store_slots.proofs.Relaid.{find_slot}
 use Rattle.store_slots.proofs.Changes.{searched_run}
 use Rattle.model.proofs.SoundTrees.{sound_well}
-use Rattle.editor_terms.specs.Answers.{code_number}
+use Rattle.std.specs.declared.ops.ControlFlow.{ControlFlow}
+use Rattle.std.specs.declared.ops.ControlFlow.TheVariants.{Continue, Break}
+use Rattle.editor_terms.specs.Answers.{Answer, code_number}
 use Rattle.editor_terms.specs.Edits.{as_edit, parts_of, seen_as, turn_as, goes_on, wanted_by, ends_with, counts_after, sight_as, TurnIs}
-use Rattle.editor_terms.specs.declared.code.Code.{Code}
-use Rattle.editor_terms.specs.declared.code.Code.TheVariants.{Done}
+use Rattle.editor_terms.specs.declared.refusal.Refusal.{Refusal}
+use Rattle.editor_terms.specs.declared.refusal.Refusal.TheVariants.{EmptyComponent, NoRoom}
 use Rattle.editor_terms.specs.declared.edit.Edit.{Edit}
 use Rattle.editor_terms.specs.declared.edit.Seen.{Seen}
 use Rattle.editor_terms.specs.declared.edit.Turn.{Turn}
@@ -43,14 +47,14 @@ use Rattle.editor_terms.specs.declared.edit.Turn.TheVariants.{Stop, Cut, Put, Do
 use Rattle.names.proofs.FrontLaws.{Front, front_begin, front_here, front_next, piece_short, piece_slash}
 use Rattle.editor_walk.specs.Counted.{counts_as, record_counts}
 use Rattle.editor_walk.specs.Landings.{caches, stops, planned, LandsAs}
-use Rattle.editor_walk.specs.Levels.{Stored, Stands, StepIs, EndsAs, CachesAs, LandIs, LandedAs, MeasuredAs, down_as, step_as}
+use Rattle.editor_walk.specs.Levels.{Stored, Stands, StepSays, StepIs, onward, CachesAs, LandIs, LandedAs, MeasuredAs, down_as, step_as}
 use Rattle.editor_walk.specs.declared.counts.Counts.{Counts as CodeCounts}
 use Rattle.editor_walk.specs.declared.land.Raw.{Raw as RawTree}
 use Rattle.editor_walk.specs.declared.land.Landing.{Landing}
 use Rattle.editor_walk.specs.declared.land.Landing.TheVariants.{There, Fresh, Load, Halt}
 use Rattle.editor_walk.specs.declared.measure.Level.{Level}
 use Rattle.editor_walk.specs.declared.measure.Level.TheVariants.{Slot, Raw, Empty}
-use Rattle.editor_walk.specs.declared.measure.MeasureStep.{MeasureStep}
+use Rattle.editor_walk.specs.declared.measure.Stage.{Stage}
 use Rattle.editor_walk.proofs.ComponentLaws.{components_some, rest_of, rest_nil, not_last, pieces_are}
 use Rattle.editor_walk.proofs.CountLaws.{counts_view, counts_room, many_entries, many_names}
 use Rattle.editor_walk.proofs.LandLaws.{landing_there, landing_new}
@@ -75,61 +79,37 @@ over_code : (k : ℕ) → (over k).code ≡ k
 unfolding over
 over_code k = refl
 
--- steps
-module _ {tlens trees : List ℕ} {m : Next → Measured} {g : MeasureStep} where
-  pub ends_past : EndsAs 5 false g → ((next : Next) → (m next).kept ≡ false) → StepIs tlens trees m g
-  ends_past e h =
-      record {
-        past = λ k. (e.code, h);
-        stop = λ k s. no_way (sym k ∙ e.kept);
-        on = λ k s. no_way (sym k ∙ e.kept);
-        done = λ k s. no_way (sym k ∙ e.kept);
-      }
+-- a refusal that `?` passes on
+pub passed_on : {A : Type 0} {d : Refusal} (r : Result A Refusal) → IsErrAnd r (λ x. x ≡ d) → r ≡ Err d
+passed_on r h = let (y, e, z) = err_from_is_err_and r h in e ∙ ap Err z
 
-  pub ends_stop : {x : ℕ} → EndsAs x true g → ((next : Next) → m next ≡ over x) → StepIs tlens trees m g
-  ends_stop e h =
-      record {
-        past = λ k. no_way (sym e.kept ∙ k);
-        stop = λ k s next. h next ∙ sym (ap over e.code);
-        on = λ k s. no_way (sym s ∙ e.going);
-        done = λ k s. no_way (sym s ∙ e.going);
-      }
-
-step_same : {tlens trees : List ℕ} {m n : Next → Measured} {g : MeasureStep} → ((next : Next) → n next ≡ m next) → StepIs tlens trees m g → StepIs tlens trees n g
-step_same h k =
-    record {
-      past = λ a. let (x, y) = k.past a in (x, λ next. ap (λ (z : Measured). z.kept) (h next) ∙ y next);
-      stop = λ a b next. h next ∙ k.stop a b next;
-      on = λ a b. let (t, s, w, r) = k.on a b in (t, s, w, λ next. h next ∙ r next);
-      done = k.done;
-    }
+-- a step in another form
+step_same : {tlens trees : List ℕ} {m n : Next → Measured} (g : Result (ControlFlow Answer Stage) Refusal) → ((next : Next) → n next ≡ m next) → StepIs tlens trees m g → StepIs tlens trees n g
+step_same (Err refusal) h k = record { says = (k.says.0, λ next. ap (λ (z : Measured). z.kept) (h next) ∙ k.says.1 next) }
+step_same (Ok (Break answer)) h k = record { says = λ next. h next ∙ k.says next }
+step_same (Ok (Continue stage)) h k = let (t, s, w, r) = k.says in record { says = (t, s, w, λ next. h next ∙ r next) }
 
 -- a tree that is to be cached
 module _ {level : Level} {size : Size} {n : ℕ} {u : Counts} where
-  pub cached_entries : {g : MeasureStep} → 1024 < size.entries → EndsAs 5 false g → CachesAs level size n u g
-  cached_entries h e =
-      record { is = λ tlens trees q t en ee em s. ends_past e (λ next. counted_past (plus_tree q t u) (next t (plus_tree q t u)) (many_entries u q t (omega (arith, h, ee)))) }
+  pub cached_entries : 1024 < size.entries → CachesAs level size n u (Err NoRoom)
+  cached_entries h =
+      record { is = λ tlens trees q t en ee em s. record { says = (refl, λ next. counted_past (plus_tree q t u) (next t (plus_tree q t u)) (many_entries u q t (omega (arith, h, ee)))) } }
 
-  pub cached_names : {g : MeasureStep} → 16384 < size.name_bytes → EndsAs 5 false g → CachesAs level size n u g
-  cached_names h e =
-      record { is = λ tlens trees q t en ee em s. ends_past e (λ next. counted_past (plus_tree q t u) (next t (plus_tree q t u)) (many_names u q t (omega (arith, h, em)))) }
+  pub cached_names : 16384 < size.name_bytes → CachesAs level size n u (Err NoRoom)
+  cached_names h =
+      record { is = λ tlens trees q t en ee em s. record { says = (refl, λ next. counted_past (plus_tree q t u) (next t (plus_tree q t u)) (many_names u q t (omega (arith, h, em)))) } }
 
   module _ (v : CodeCounts) (ev : (q : Bytes) (t : Tree) → n ≡ length q → size.entries ≡ length t → size.name_bytes ≡ name_bytes t → counts_as v ≡ plus_tree q t u) where
-    pub cached_past : {g : MeasureStep} → within (counts_as v) ≡ false → EndsAs 5 false g → CachesAs level size n u g
-    cached_past h e =
-        record { is = λ tlens trees q t en ee em s. ends_past e (λ next. counted_past (plus_tree q t u) (next t (plus_tree q t u)) (ap within (sym (ev q t en ee em)) ∙ h)) }
+    pub cached_past : within (counts_as v) ≡ false → CachesAs level size n u (Err NoRoom)
+    cached_past h =
+        record { is = λ tlens trees q t en ee em s. record { says = (refl, λ next. counted_past (plus_tree q t u) (next t (plus_tree q t u)) (ap within (sym (ev q t en ee em)) ∙ h)) } }
 
-    pub cached_on : within (counts_as v) ≡ true → CachesAs level size n u (record { code = Done; kept = true; going = true; level = level; counts = v })
+    pub cached_on : within (counts_as v) ≡ true → CachesAs level size n u (Ok (record { level = level; counts = v }))
     cached_on h =
         record {
           is = λ tlens trees q t en ee em s.
               let e = ev q t en ee em in
-              record {
-                past = λ k. no_way k;
-                stop = λ k a. no_way a;
-                on = λ k a. (t, s, h, λ next. counted_on (plus_tree q t u) (next t (plus_tree q t u)) (ap within (sym e) ∙ h) ∙ ap (next t) (sym e));
-                done = λ k a. refl;
-              };
+              record { says = (t, s, h, λ next. counted_on (plus_tree q t u) (next t (plus_tree q t u)) (ap within (sym e) ∙ h) ∙ ap (next t) (sym e)) };
         }
 
 -- the step down, by what is found there
@@ -146,44 +126,39 @@ unfolding on_landing
 on_halts next u l k e = ap (on_landing next u) e
 
 module _ {x : Landing} {n : ℕ} where
-  pub landed_there : (u : CodeCounts) → within (counts_as u) ≡ true → {s : ℕ} → x ≡ There s → LandedAs x n (counts_as u) (record { code = Done; kept = true; going = true; level = Slot s; counts = u })
+  pub landed_there : (u : CodeCounts) → within (counts_as u) ≡ true → {s : ℕ} → x ≡ There s → LandedAs x n (counts_as u) (Ok (Continue (record { level = Slot s; counts = u })))
   landed_there u w {s} ex =
       record {
         is = λ tlens trees q l en li.
             let h : LandIs tlens trees q (counts_as u) (There s) l = subst (λ (z : Landing). LandIs tlens trees q (counts_as u) z l) ex li in
-            record {
-              past = λ k. no_way k;
-              stop = λ k a. no_way a;
-              on = λ k a. (tree_of 20 tlens trees s, (h.0, refl), w, λ next. on_there next (counts_as u) l (tree_of 20 tlens trees s) h.1);
-              done = λ k a. refl;
-            };
+            record { says = (tree_of 20 tlens trees s, (h.0, refl), w, λ next. on_there next (counts_as u) l (tree_of 20 tlens trees s) h.1) };
       }
 
-  module _ {u : Counts} {g : MeasureStep} where
-    pub landed_halt : {code : Code} → EndsAs (code_number code) true g → x ≡ Halt code → LandedAs x n u g
-    landed_halt {code} e ex =
+  module _ {u : Counts} where
+    pub landed_halt : {answer : Answer} → x ≡ Halt answer → LandedAs x n u (Ok (Break answer))
+    landed_halt {answer} ex =
         record {
           is = λ tlens trees q l en li.
-              let h : LandIs tlens trees q u (Halt code) l = subst (λ (z : Landing). LandIs tlens trees q u z l) ex li in
-              ends_stop e (λ next. on_halts next u l (code_number code) h);
+              let h : LandIs tlens trees q u (Halt answer) l = subst (λ (z : Landing). LandIs tlens trees q u z l) ex li in
+              record { says = λ next. on_halts next u l (code_number answer) h };
         }
 
-    pub landed_fresh : CachesAs Empty (record { entries = 0; name_bytes = 0 }) n u g → x ≡ Fresh → LandedAs x n u g
-    landed_fresh k ex =
+    pub landed_fresh : {g : Result Stage Refusal} → CachesAs Empty (record { entries = 0; name_bytes = 0 }) n u g → x ≡ Fresh → LandedAs x n u (onward g)
+    landed_fresh {g} k ex =
         record {
           is = λ tlens trees q l en li.
               let h : LandIs tlens trees q u Fresh l = subst (λ (z : Landing). LandIs tlens trees q u z l) ex li in
-              step_same (λ next. on_lands next u (plus_tree q [] u) l [] h) (k.is tlens trees q [] en refl refl refl);
+              step_same (onward g) (λ next. on_lands next u (plus_tree q [] u) l [] h) (k.is tlens trees q [] en refl refl refl);
         }
 
-    pub landed_load : {r : RawTree} → CachesAs (Raw r.bytes) r.size n u g → x ≡ Load r → LandedAs x n u g
-    landed_load {r} k ex =
+    pub landed_load : {g : Result Stage Refusal} {r : RawTree} → CachesAs (Raw r.bytes) r.size n u g → x ≡ Load r → LandedAs x n u (onward g)
+    landed_load {g} {r} k ex =
         record {
           is = λ tlens trees q l en li.
               let h : LandIs tlens trees q u (Load r) l = subst (λ (z : Landing). LandIs tlens trees q u z l) ex li in
               let t = h.0 in
               let i = h.1 in
-              step_same (λ next. on_lands next u (plus_tree q t u) l t h.2) (k.is tlens trees q t en i.entries i.names i.reads);
+              step_same (onward g) (λ next. on_lands next u (plus_tree q t u) l t h.2) (k.is tlens trees q t en i.entries i.names i.reads);
         }
 
 -- what going down finds is the model's landing
@@ -200,15 +175,15 @@ land_is T e i ds ps q u tlens trees ld lt (Load r) l =
     let f = l.0 20 (cut tlens trees) (length_cut tlens trees ∙ lt) in
     let (t, k, p) = l.1 in
     (t, k, landing_new sha1 T e q u i (find at q (gather (slots_of 20 ds ps (cut tlens trees)))) (caches t) f.0 p)
-land_is T e i ds ps q u tlens trees ld lt (Halt code) l =
+land_is T e i ds ps q u tlens trees ld lt (Halt answer) l =
     let f = l.0 20 (cut tlens trees) (length_cut tlens trees ∙ lt) in
-    landing_new sha1 T e q u i (find at q (gather (slots_of 20 ds ps (cut tlens trees)))) (stops (code_number code)) f.0 l.1
+    landing_new sha1 T e q u i (find at q (gather (slots_of 20 ds ps (cut tlens trees)))) (stops (code_number answer)) f.0 l.1
 
 -- the turn at a component
 module _ (T : Table) (e : walk.Edit) (q : Bytes) (o : Option Held) (n : Bytes) (u : Counts) (s : Opt Seen) (opening : Bool) (next : Next) where
   sight_past : (r : Turn) (b : Bool) → within u ≡ true → within (counts_after r s n u) ≡ false → (on_sight sha1 T e opening q o next (sight_as r b s n u)).kept ≡ false
   unfolding on_sight
-  sight_past (Stop code) b w h = no_way (sym w ∙ h)
+  sight_past (Stop answer) b w h = no_way (sym w ∙ h)
   sight_past Cut b w h = counted_past (counts_after Cut s n u) _ h
   sight_past (Put k i) true w h = counted_past (counts_after (Put k i) s n u) _ h
   sight_past (Put k i) false w h = counted_past (counts_after (Put k i) s n u) _ h
@@ -216,7 +191,7 @@ module _ (T : Table) (e : walk.Edit) (q : Bytes) (o : Option Held) (n : Bytes) (
 
   sight_stop : (r : Turn) (b : Bool) (t : Tree) → within (counts_after r s n u) ≡ true → goes_on opening (turn_as r b n t) ≡ false → on_sight sha1 T e opening q o next (sight_as r b s n u) ≡ over (ends_with r)
   unfolding on_sight
-  sight_stop (Stop code) b t w h = refl
+  sight_stop (Stop answer) b t w h = refl
   sight_stop Cut b t w h =
       counted_on (counts_after Cut s n u) _ w ∙ ap (λ (z : Bool). pick_measured z (on_landing next (counts_after Cut s n u) (landing sha1 T e q (counts_after Cut s n u) none o)) (over 0)) h
   sight_stop (Put k i) true t w h =
@@ -227,7 +202,7 @@ module _ (T : Table) (e : walk.Edit) (q : Bytes) (o : Option Held) (n : Bytes) (
   sight_on : (r : Turn) (b : Bool) (t : Tree) → within (counts_after r s n u) ≡ true → goes_on opening (turn_as r b n t) ≡ true →
       on_sight sha1 T e opening q o next (sight_as r b s n u) ≡ on_landing next (counts_after r s n u) (landing sha1 T e q (counts_after r s n u) (wanted_by r) o)
   unfolding on_sight
-  sight_on (Stop code) b t w h = no_way (sym h)
+  sight_on (Stop answer) b t w h = no_way (sym h)
   sight_on Cut b t w h =
       counted_on (counts_after Cut s n u) _ w ∙ ap (λ (z : Bool). pick_measured z (on_landing next (counts_after Cut s n u) (landing sha1 T e q (counts_after Cut s n u) none o)) (over 0)) h
   sight_on (Put k i) true t w h =
@@ -236,10 +211,10 @@ module _ (T : Table) (e : walk.Edit) (q : Bytes) (o : Option Held) (n : Bytes) (
   sight_on (Down i) b t w h = counted_on (counts_after (Down i) s n u) _ w
 
 -- one step
-pub step_empty : (T : Table) (e : walk.Edit) (opening b : Bool) (q n : Bytes) (t : Tree) (c : Cache) (u : Counts) {tlens trees : List ℕ} {g : MeasureStep} → length n ≡ 0 → EndsAs 1 true g →
-    StepIs tlens trees (step_as T e opening b q n t c u) g
-step_empty T e opening b q [] t c u z k = ends_stop k (λ next. refl)
-step_empty T e opening b q (x ∷ n) t c u z k = absurd (omega (arith, z))
+pub step_empty : (T : Table) (e : walk.Edit) (opening b : Bool) (q n : Bytes) (t : Tree) (c : Cache) (u : Counts) {tlens trees : List ℕ} → length n ≡ 0 →
+    StepIs tlens trees (step_as T e opening b q n t c u) (Ok (Break (Err EmptyComponent)))
+step_empty T e opening b q [] t c u z = record { says = λ next. refl }
+step_empty T e opening b q (x ∷ n) t c u z = absurd (omega (arith, z))
 
 pub nil_length : (n : Bytes) → (length n ≡ 0 → ⊥) → is_nil n ≡ false
 nil_length [] h = absurd (h refl)
@@ -252,16 +227,16 @@ module _ (T : Table) (edit : Edit) (opening b : Bool) (q n : Bytes) (c : Cache) 
       ap (λ (z : Bool). pick_measured z (over 1) (on_sight sha1 T (as_edit edit) opening q (find at q c) next (seen b (as_edit edit) n u (entry_of n t)))) (nil_length n bytes)
       ∙ ap (on_sight sha1 T (as_edit edit) opening q (find at q c) next) (ti.counts n u (entry_of n t) es)
 
-  module _ {tlens trees : List ℕ} {g : MeasureStep} where
-    pub step_past : within u ≡ true → within v ≡ false → EndsAs 5 false g → StepIs tlens trees (step_as T (as_edit edit) opening b q n t c u) g
-    step_past w h e = ends_past e (λ next. ap (λ (z : Measured). z.kept) (at_sight next) ∙ sight_past T (as_edit edit) q (find at q c) n u s opening next r b w (ap within (sym ev) ∙ h))
+  module _ {tlens trees : List ℕ} where
+    pub step_past : within u ≡ true → within v ≡ false → StepIs tlens trees (step_as T (as_edit edit) opening b q n t c u) (Err NoRoom)
+    step_past w h = record { says = (refl, λ next. ap (λ (z : Measured). z.kept) (at_sight next) ∙ sight_past T (as_edit edit) q (find at q c) n u s opening next r b w (ap within (sym ev) ∙ h)) }
 
-    pub step_stop : within v ≡ true → goes_on opening (turn_as r b n t) ≡ false → {x : ℕ} → x ≡ ends_with r → EndsAs x true g → StepIs tlens trees (step_as T (as_edit edit) opening b q n t c u) g
-    step_stop w h ex e = ends_stop e (λ next. at_sight next ∙ sight_stop T (as_edit edit) q (find at q c) n u s opening next r b t (ap within (sym ev) ∙ w) h ∙ sym (ap over ex))
+    pub step_stop : within v ≡ true → goes_on opening (turn_as r b n t) ≡ false → {answer : Answer} → code_number answer ≡ ends_with r → StepIs tlens trees (step_as T (as_edit edit) opening b q n t c u) (Ok (Break answer))
+    step_stop w h ea = record { says = λ next. at_sight next ∙ sight_stop T (as_edit edit) q (find at q c) n u s opening next r b t (ap within (sym ev) ∙ w) h ∙ sym (ap over ea) }
 
-    pub step_on : within v ≡ true → goes_on opening (turn_as r b n t) ≡ true → StepIs tlens trees (down_as T (as_edit edit) q (wanted_by r) c v) g → StepIs tlens trees (step_as T (as_edit edit) opening b q n t c u) g
-    step_on w h k =
-        step_same (λ next.
+    pub step_on : within v ≡ true → goes_on opening (turn_as r b n t) ≡ true → {g : Result (ControlFlow Answer Stage) Refusal} → StepIs tlens trees (down_as T (as_edit edit) q (wanted_by r) c v) g → StepIs tlens trees (step_as T (as_edit edit) opening b q n t c u) g
+    step_on w h {g} k =
+        step_same g (λ next.
         at_sight next ∙ sight_on T (as_edit edit) q (find at q c) n u s opening next r b t (ap within (sym ev) ∙ w) h ∙ ap (λ (z : Counts). down_as T (as_edit edit) q (wanted_by r) c z next) (sym ev)) k
 
 -- the trees of a store that is laid out
@@ -289,9 +264,9 @@ pub record Measuring (T : Table) (e : walk.Edit) (opening : Bool) (c : Cache) (t
   pub front : Front whole so_far p
   pub rest : goal ≡ measured sha1 T e opening (pieces p) so_far tree c u
 
-pub measure_empty : (T : Table) (e : walk.Edit) (opening : Bool) (q path : Bytes) (c : Cache) → length path ≡ 0 → MeasuredAs (measure sha1 T e opening q path c) (record { code = Done; kept = true })
-measure_empty T e opening q [] c z = record { kept = sym (over_kept 0); code = λ h. sym (over_code 0); past = λ h. no_way h }
-measure_empty T e opening q (b ∷ bs) c z = absurd (omega (arith, z))
+pub measure_empty : (T : Table) (e : walk.Edit) (opening : Bool) (q path : Bytes) (c : Cache) → length path ≡ 0 → {a : Answer} → code_number a ≡ 0 → MeasuredAs (measure sha1 T e opening q path c) (Ok a)
+measure_empty T e opening q [] c z i = record { says = (over_kept 0, i ∙ sym (over_code 0)) }
+measure_empty T e opening q (b ∷ bs) c z i = absurd (omega (arith, z))
 
 pub measure_begin : (T : Table) (e : walk.Edit) (opening : Bool) (r : Record) (plens paths tlens trees : List ℕ) (whole path : Bytes) (slot : ℕ) → Laid 20 r plens paths tlens trees →
     editor.fits (view_of 20 r plens paths tlens trees) ≡ true → Used r slot → whole ≡ full (path_of plens paths slot) path → (length path ≡ 0 → ⊥) → (u : Counts) → u ≡ record_counts r →
@@ -319,7 +294,7 @@ stops_here T e opening b q (x ∷ n) t c u v s h = refl
 module _ {T : Table} {e : walk.Edit} {opening : Bool} {c : Cache} {tlens trees : List ℕ} {whole : Bytes} {goal : Measured} {p : Bytes} {level : Level} {u : Counts}
     (s : Measuring T e opening c tlens trees whole goal p level u) {k : ℕ} (ek : k ≡ length (first_piece p)) {b : Bool} (eb : b ≡ eqb k (length p))
     {end : ℕ} (ee : end ≡ length whole - length p + k) {below name : Bytes} (ew : below ≡ take end whole) (en : name ≡ take k p) {d : Cache} (ed : d ≡ c)
-    {g : MeasureStep} (gi : StepIs tlens trees (step_as T e opening b below name s.tree d u) g) where
+    {g : Result (ControlFlow Answer Stage) Refusal} (gi : StepIs tlens trees (step_as T e opening b below name s.tree d u) g) where
   abbrev q : Bytes
   q = join s.so_far (take k p)
 
@@ -339,49 +314,46 @@ module _ {T : Table} {e : walk.Edit} {opening : Bool} {c : Cache} {tlens trees :
   last_over : b ≡ true → (t : Tree) (v : Counts) → rest_of_lem t v ≡ over 0
   last_over h t v = ap (λ (z : Bool). measured sha1 T e opening (rest_of z p k) q t c v) h
 
-  stopped : g.kept ≡ true → goal ≡ over (code_number g.code) → MeasuredAs goal (record { code = g.code; kept = g.kept })
-  stopped a h =
-      record {
-        kept = a ∙ sym (ap (λ (z : Measured). z.kept) h ∙ over_kept (code_number g.code));
-        code = λ y. sym (ap (λ (z : Measured). z.code) h ∙ over_code (code_number g.code));
-        past = λ y. no_way (sym a ∙ y);
-      }
+  stopped : {answer : Answer} → goal ≡ over (code_number answer) → MeasuredAs goal (Ok answer)
+  stopped {answer} h = record { says = (ap (λ (z : Measured). z.kept) h ∙ over_kept (code_number answer), sym (ap (λ (z : Measured). z.code) h ∙ over_code (code_number answer))) }
 
-  pub measure_over : (not g.kept || (not g.going || b)) ≡ true → MeasuredAs goal (record { code = g.code; kept = g.kept })
-  measure_over h = go g.kept g.going refl refl h
-    where
-      go : (x y : Bool) → g.kept ≡ x → g.going ≡ y → (not x || (not y || b)) ≡ true → MeasuredAs goal (record { code = g.code; kept = g.kept })
-      go false y a z h =
-          record {
-            kept = a ∙ sym (ap (λ (w : Measured). w.kept) step ∙ (stepped.past a).1 rest_of_lem);
-            code = λ w. no_way (sym w ∙ a);
-            past = λ w. (stepped.past a).0;
-          }
-      go true false a z h = stopped a (step ∙ stepped.stop a z rest_of_lem)
-      go true true a z h =
-          let f = stepped.on a z in
-          stopped a (step ∙ f.3 rest_of_lem ∙ last_over h f.0 (counts_as g.counts) ∙ sym (ap over (stepped.done a z)))
+  abbrev Says : Result (ControlFlow Answer Stage) Refusal → Type 0
+  Says z = StepSays tlens trees (step_as T e opening b q (take k p) s.tree c u) z
 
-  module _ (h : (not g.kept || (not g.going || b)) ≡ false) where
-    parts : (x y z : Bool) → (not x || (not y || z)) ≡ false → (x ≡ true) × (y ≡ true) × (z ≡ false)
-    parts true true z h = (refl, refl, h)
-    parts true false z h = no_way h
-    parts false y z h = no_way h
+  pub measure_past : {refusal : Refusal} → g ≡ Err refusal → MeasuredAs goal (Err refusal)
+  measure_past {refusal} f =
+      let y : Says (Err refusal) = subst Says f stepped.says in
+      record { says = (ap (λ (w : Measured). w.kept) step ∙ y.1 rest_of_lem, y.0) }
 
-    pub measure_shorter : k < length p
-    measure_shorter = not_last p k ek eb (parts g.kept g.going b h).2
+  pub measure_over : {answer : Answer} → g ≡ Ok (Break answer) → MeasuredAs goal (Ok answer)
+  measure_over {answer} f =
+      let y : Says (Ok (Break answer)) = subst Says f stepped.says in
+      stopped (step ∙ y rest_of_lem)
 
-    pub measure_next : {p' : Bytes} → p' ≡ drop (k + 1) p → Measuring T e opening c tlens trees whole goal p' g.level (counts_as g.counts)
-    measure_next {p'} ep =
-        let y = parts g.kept g.going b h in
-        let f = stepped.on y.0 y.1 in
-        let j = measure_shorter in
-        let n = stops_here T e opening b q (take k p) s.tree c u (counts_as g.counts) f.0 f.3 in
-        subst (λ (z : Bytes). Measuring T e opening c tlens trees whole goal z g.level (counts_as g.counts)) (sym ep) (record {
-          tree = f.0;
-          stands = f.1;
-          room = f.2;
-          so_far = q;
-          front = front_next s.front k j (piece_slash p k ek j) n;
-          rest = step ∙ f.3 rest_of_lem ∙ ap (λ (z : Bool). measured sha1 T e opening (rest_of z p k) q f.0 c (counts_as g.counts)) y.2;
-        })
+  module _ {stage : Stage} (f : g ≡ Ok (Continue stage)) where
+    goes_on_lem : Says (Ok (Continue stage))
+    goes_on_lem = subst Says f stepped.says
+
+    pub measure_last : k ≡ length p → {answer : Answer} → code_number answer ≡ 0 → MeasuredAs goal (Ok answer)
+    measure_last h z = let y = goes_on_lem in stopped (step ∙ y.3 rest_of_lem ∙ last_over (eb ∙ eq-eqb k (length p) h) y.0 (counts_as stage.counts) ∙ sym (ap over z))
+
+    module _ (h : k ≡ length p → ⊥) where
+      earlier : b ≡ false
+      earlier = eb ∙ ne_eqb k (length p) h
+
+      pub measure_shorter : k < length p
+      measure_shorter = not_last p k ek eb earlier
+
+      pub measure_next : {p' : Bytes} → p' ≡ drop (k + 1) p → Measuring T e opening c tlens trees whole goal p' stage.level (counts_as stage.counts)
+      measure_next {p'} ep =
+          let y = goes_on_lem in
+          let j = measure_shorter in
+          let n = stops_here T e opening b q (take k p) s.tree c u (counts_as stage.counts) y.0 y.3 in
+          subst (λ (z : Bytes). Measuring T e opening c tlens trees whole goal z stage.level (counts_as stage.counts)) (sym ep) (record {
+            tree = y.0;
+            stands = y.1;
+            room = y.2;
+            so_far = q;
+            front = front_next s.front k j (piece_slash p k ek j) n;
+            rest = step ∙ y.3 rest_of_lem ∙ ap (λ (z : Bool). measured sha1 T e opening (rest_of z p k) q y.0 c (counts_as stage.counts)) earlier;
+          })

@@ -1,7 +1,6 @@
 -- Laws of both passes: the first says whether the walk keeps the limits, and then the second makes it. Assumes nothing.
 use Prim.Native.Nat.{ℕ, ◌≤◌}
-use mathlib.Core.Path.{◌≡◌, refl, sym, ap, ◌∙◌}
-use mathlib.Core.List.{List}
+use mathlib.Core.Path.{◌≡◌, refl, sym, ap, ◌∙◌, subst}
 use mathlib.Core.Bool.{Bool, true, false, not, ◌||◌}
 use mathlib.Core.Option.{Option}
 use native.Mathlib.Omega.{arith}
@@ -22,13 +21,15 @@ use Rattle.model.proofs.Basics.{or_right, not_false}
 use Rattle.model.proofs.LowNumbers.{measured_low}
 use Rattle.model.proofs.MeasureRight.{measure_code, measure_kept}
 use Rattle.model.proofs.LimitLaws.{fits_of}
-use Rattle.store_slots.specs.declared.Record.{Record}
-use Rattle.store_slots.specs.View.{view_of, Laid, Used, path_of}
+use Rattle.std.specs.Prelude.{Result, Ok, Err}
+use Rattle.store_slots.specs.declared.Store.{Store}
+use Rattle.store_slots.specs.View.{Used}
+use Rattle.store_slots.specs.Stores.{LaidIn, path_in_slot, view_in}
+use Rattle.editor_terms.specs.Answers.{Answer}
+use Rattle.editor_terms.specs.declared.refusal.Refusal.{Refusal}
 use Rattle.store_slots.proofs.Relaid.{find_slot}
-use Rattle.editor_walk.specs.Levels.{MeasuredAs}
+use Rattle.editor_walk.specs.Levels.{MeasureSays, MeasuredAs}
 use Rattle.editor_walk.specs.Steps.{WalkedAs, editor_at, SettledAs}
-use Rattle.editor_walk.specs.declared.apply.Answer.{Answer}
-use Rattle.editor_walk.specs.declared.measure.Measured.{Measured}
 use Rattle.editor_walk.proofs.DownLaws.{same_write}
 
 -- a path that is not refused is short
@@ -37,13 +38,13 @@ unfolding refused
 short_path prefix path h =
     leb-true (length (full prefix path)) 1024 (not_false (leb (length (full prefix path)) 1024) (or_right (has 0 path || some_long (components path)) (not (leb (length (full prefix path)) 1024)) h))
 
-module _ (T : Table) (e : Edit) (opening : Bool) (r : Record) (plens paths tlens trees : List ℕ) (L : Laid 20 r plens paths tlens trees) (cl : r.hidden ≡ r.free) (slot : ℕ) (U : Used r slot) (path : Bytes)
-    (v : valid sha1 (editor_at (view_of 20 r plens paths tlens trees)) ≡ true) where
+module _ (T : Table) (e : Edit) (opening : Bool) (s : Store) (L : LaidIn 20 s) (cl : s.ed.hidden ≡ s.ed.free) (slot : ℕ) (U : Used s.ed slot) (path : Bytes)
+    (v : valid sha1 (editor_at (view_in 20 s)) ≡ true) where
   abbrev q : Bytes
-  q = path_of plens paths slot
+  q = path_in_slot s slot
 
   abbrev c : Cache
-  c = view_of 20 r plens paths tlens trees
+  c = view_in 20 s
 
   abbrev w : Walked
   w = walk sha1 T e opening (components path) q c
@@ -52,27 +53,30 @@ module _ (T : Table) (e : Edit) (opening : Bool) (r : Record) (plens paths tlens
   view_fits = fits_of sha1 c v
 
   there : is_some (find at q c) ≡ true
-  there = ap (λ (o : Option Held). is_some o) (find_slot 20 r plens paths tlens trees L slot U.low U.used)
+  there = ap (λ (o : Option Held). is_some o) (find_slot 20 s.ed s.plens.now s.paths.now s.tlens.now s.trees.now L slot U.low U.used)
 
-  module _ {m : Measured} (em : MeasuredAs (measure sha1 T e opening q path c) m) where
-    pub kept_is : m.kept ≡ w.kept
-    kept_is = em.kept ∙ measure_kept sha1 T e opening q path c v there
+  module _ {m : Result Answer Refusal} (em : MeasuredAs (measure sha1 T e opening q path c) m) where
+    pub walk_kept : {answer : Answer} → m ≡ Ok answer → w.kept ≡ true
+    walk_kept {answer} f =
+        let g : MeasureSays (measure sha1 T e opening q path c) (Ok answer) = subst (MeasureSays (measure sha1 T e opening q path c)) f em.says in
+        sym (measure_kept sha1 T e opening q path c v there) ∙ g.0
 
-    pub settle_none : m.kept ≡ false → SettledAs r plens paths tlens trees (settled (editor_at c) w) (record { code = m.code; ed = r }) plens paths tlens trees
+    pub settle_none : {refusal : Refusal} → m ≡ Err refusal → SettledAs s (settled (editor_at c) w) (Err refusal) s
     unfolding settled refuse_if
-    settle_none f =
-        let k : w.kept ≡ false = sym kept_is ∙ f in
+    settle_none {refusal} f =
+        let g : MeasureSays (measure sha1 T e opening q path c) (Err refusal) = subst (MeasureSays (measure sha1 T e opening q path c)) f em.says in
+        let k : w.kept ≡ false = sym (measure_kept sha1 T e opening q path c v there) ∙ g.0 in
         record {
-          code = em.past f ∙ sym (ap (λ (z : Bool). (refuse_if (not z) 5 (editor_at c) (record { code = w.code; editor = editor_at w.now })).code) k);
+          code = g.1 ∙ sym (ap (λ (z : Bool). (refuse_if (not z) 5 (editor_at c) (record { code = w.code; editor = editor_at w.now })).code) k);
           now = sym (ap (λ (z : Bool). (refuse_if (not z) 5 (editor_at c) (record { code = w.code; editor = editor_at w.now })).editor) k);
-          stand = record { laid = L; closed = cl; write = same_write r };
+          stand = record { laid = L; closed = cl; write = same_write s.ed };
           same = λ h. (refl, refl, refl, refl, refl);
         }
 
-    pub settle_walk : m.kept ≡ true → {a : Answer} {plens' paths' tlens' trees' : List ℕ} → WalkedAs r w a plens' paths' tlens' trees' → SettledAs r plens paths tlens trees (settled (editor_at c) w) a plens' paths' tlens' trees'
+    pub settle_walk : {answer : Answer} → m ≡ Ok answer → {a : Answer} {s' : Store} → WalkedAs s.ed w a s' → SettledAs s (settled (editor_at c) w) a s'
     unfolding settled refuse_if
     settle_walk t d =
-        let k : w.kept ≡ true = sym kept_is ∙ t in
+        let k : w.kept ≡ true = walk_kept t in
         record {
           code = d.code ∙ sym (ap (λ (z : Bool). (refuse_if (not z) 5 (editor_at c) (record { code = w.code; editor = editor_at w.now })).code) k);
           now = ap editor_at d.now ∙ sym (ap (λ (z : Bool). (refuse_if (not z) 5 (editor_at c) (record { code = w.code; editor = editor_at w.now })).editor) k);

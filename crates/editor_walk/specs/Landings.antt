@@ -58,7 +58,7 @@ abbrev pub PlanIs : Plan → Landing → Type 0
 PlanIs plan (There slot) = ⊥
 PlanIs plan Fresh = plan ≡ caches []
 PlanIs plan (Load r) = (t : Tree) × RawIs r t × (plan ≡ caches t)
-PlanIs plan (Halt code) = plan ≡ stops (code_number code)
+PlanIs plan (Halt answer) = plan ≡ stops (code_number answer)
 
 -- the slot of the path q, whatever the trees are
 abbrev pub SlotFound : List ℕ → List Bytes → Bytes → Opt ℕ → Type 0
@@ -69,4 +69,4 @@ abbrev pub LandsAs : Plan → List ℕ → List Bytes → Bytes → Landing → 
 LandsAs plan ds ps q (There slot) = SlotFound ds ps q (Some slot)
 LandsAs plan ds ps q Fresh = SlotFound ds ps q None × PlanIs plan Fresh
 LandsAs plan ds ps q (Load r) = SlotFound ds ps q None × PlanIs plan (Load r)
-LandsAs plan ds ps q (Halt code) = SlotFound ds ps q None × PlanIs plan (Halt code)
+LandsAs plan ds ps q (Halt answer) = SlotFound ds ps q None × PlanIs plan (Halt answer)

@@ -1,5 +1,7 @@
 -- The tree that the first pass is at, and what a step of it says of the model's measure. Assumes nothing.
-use Rattle.std.specs.Prelude.{ℕ, ◌<◌, ◌≡◌, Bool, true, false, List, [], length, Option as Opt}
+use Rattle.std.specs.Prelude.{ℕ, ◌<◌, ◌≡◌, Bool, true, false, List, [], length, Option as Opt, Result, Ok, Err}
+use Rattle.std.specs.declared.ops.ControlFlow.{ControlFlow}
+use Rattle.std.specs.declared.ops.ControlFlow.TheVariants.{Continue, Break}
 use Rattle.std.proofs.Math.Option.{Option, some}
 use Rattle.model.specs.Bytes.{Bytes, is_nil}
 use Rattle.model.specs.Map.{find, rising}
@@ -15,7 +17,8 @@ use Rattle.names.specs.declared.tree.Size.{Size}
 use Rattle.names_compact.specs.Compact.{Run}
 use Rattle.store_runs.specs.Runs.{run_of, Sound}
 use Rattle.store_slots.specs.View.{tree_of}
-use Rattle.editor_terms.specs.Answers.{code_number}
+use Rattle.editor_terms.specs.Answers.{Answer, code_number, refusal_number}
+use Rattle.editor_terms.specs.declared.refusal.Refusal.{Refusal}
 use Rattle.editor_terms.specs.Edits.{parts_of, seen_as}
 use Rattle.editor_terms.specs.declared.edit.Seen.{Seen}
 use Rattle.editor_walk.specs.Counted.{counts_as}
@@ -23,9 +26,10 @@ use Rattle.editor_walk.specs.Landings.{RawIs}
 use Rattle.editor_walk.specs.declared.land.Landing.{Landing}
 use Rattle.editor_walk.specs.declared.land.Landing.TheVariants.{There, Fresh, Load, Halt}
 use Rattle.editor_walk.specs.declared.measure.Level.{Level}
+use Rattle.editor_walk.specs.declared.task.Task.{Task}
+use Rattle.editor_walk.specs.Tasks.{table_for, edit_for}
 use Rattle.editor_walk.specs.declared.measure.Level.TheVariants.{Slot, Raw, Empty}
-use Rattle.editor_walk.specs.declared.measure.Measured.{Measured as Answer}
-use Rattle.editor_walk.specs.declared.measure.MeasureStep.{MeasureStep}
+use Rattle.editor_walk.specs.declared.measure.Stage.{Stage}
 
 -- the trees of the slots can be searched
 pub record Stored (used : ℕ) (tlens trees : List ℕ) : Type 0 where
@@ -46,38 +50,41 @@ pub record SeenAt (tlens trees : List ℕ) (level : Level) (name : Bytes) (r : O
 
 -- g says of a step how the measure goes on: whatever comes after it, a limit is passed, and the number is 5; or the walk stops with the number and all is
 -- kept; or what comes after it decides, from the tree at its level and its counts, which are within the limits
-pub record StepIs (tlens trees : List ℕ) (m : (Tree → Counts → Measured) → Measured) (g : MeasureStep) : Type 0 where
-  pub past : g.kept ≡ false → (code_number g.code ≡ 5) × ((next : Tree → Counts → Measured) → (m next).kept ≡ false)
-  pub stop : g.kept ≡ true → g.going ≡ false → (next : Tree → Counts → Measured) → m next ≡ over (code_number g.code)
-  pub on : g.kept ≡ true → g.going ≡ true → (t : Tree) × Stands tlens trees g.level t × (within (counts_as g.counts) ≡ true)
-      × ((next : Tree → Counts → Measured) → m next ≡ next t (counts_as g.counts))
-  pub done : g.kept ≡ true → g.going ≡ true → code_number g.code ≡ 0
+abbrev pub StepSays : List ℕ → List ℕ → ((Tree → Counts → Measured) → Measured) → Result (ControlFlow Answer Stage) Refusal → Type 0
+StepSays tlens trees m (Err refusal) = (refusal_number refusal ≡ 5) × ((next : Tree → Counts → Measured) → (m next).kept ≡ false)
+StepSays tlens trees m (Ok (Break answer)) = (next : Tree → Counts → Measured) → m next ≡ over (code_number answer)
+StepSays tlens trees m (Ok (Continue stage)) =
+    (t : Tree) × Stands tlens trees stage.level t × (within (counts_as stage.counts) ≡ true) × ((next : Tree → Counts → Measured) → m next ≡ next t (counts_as stage.counts))
 
--- r is what the model's measure m says: whether the limits are kept, and the number that the edit ends with, which is 5 where they are not
-pub record MeasuredAs (m : Measured) (r : Answer) : Type 0 where
-  pub kept : r.kept ≡ m.kept
-  pub code : r.kept ≡ true → code_number r.code ≡ m.code
-  pub past : r.kept ≡ false → code_number r.code ≡ 5
+pub record StepIs (tlens trees : List ℕ) (m : (Tree → Counts → Measured) → Measured) (g : Result (ControlFlow Answer Stage) Refusal) : Type 0 where
+  pub says : StepSays tlens trees m g
 
--- the walk is over, with the number k
-pub record EndsAs (k : ℕ) (b : Bool) (g : MeasureStep) : Type 0 where
-  pub code : code_number g.code ≡ k
-  pub kept : g.kept ≡ b
-  pub going : g.going ≡ false
+-- r is what the model's measure m says: that the limits are kept, and the number that the edit ends with; or that they are not, and the number is 5
+abbrev pub MeasureSays : Measured → Result Answer Refusal → Type 0
+MeasureSays m (Ok answer) = (m.kept ≡ true) × (code_number answer ≡ m.code)
+MeasureSays m (Err refusal) = (m.kept ≡ false) × (refusal_number refusal ≡ 5)
+
+pub record MeasuredAs (m : Measured) (r : Result Answer Refusal) : Type 0 where
+  pub says : MeasureSays m r
+
+-- a step that goes on where nothing stops it
+abbrev pub onward : Result Stage Refusal → Result (ControlFlow Answer Stage) Refusal
+onward (Ok stage) = Ok (Continue stage)
+onward (Err refusal) = Err refusal
 
 -- a tree of so many entries and name bytes is to be cached, at a path of n bytes, from the counts u
-pub record CachesAs (level : Level) (size : Size) (n : ℕ) (u : Counts) (g : MeasureStep) : Type 0 where
+pub record CachesAs (level : Level) (size : Size) (n : ℕ) (u : Counts) (g : Result Stage Refusal) : Type 0 where
   pub is : (tlens trees : List ℕ) (q : Bytes) (t : Tree) → n ≡ length q → size.entries ≡ length t → size.name_bytes ≡ name_bytes t → Stands tlens trees level t →
-      StepIs tlens trees (λ next. counted (plus_tree q t u) (next t (plus_tree q t u))) g
+      StepIs tlens trees (λ next. counted (plus_tree q t u) (next t (plus_tree q t u))) (onward g)
 
 -- what the code's answer says of the model's landing
 abbrev pub LandIs : List ℕ → List ℕ → Bytes → Counts → Landing → measure.Landing → Type 0
 LandIs tlens trees q u (There slot) l = (slot < 64) × (l ≡ there (tree_of 20 tlens trees slot))
 LandIs tlens trees q u Fresh l = l ≡ lands [] (plus_tree q [] u)
 LandIs tlens trees q u (Load r) l = (t : Tree) × RawIs r t × (l ≡ lands t (plus_tree q t u))
-LandIs tlens trees q u (Halt code) l = l ≡ halts (code_number code)
+LandIs tlens trees q u (Halt answer) l = l ≡ halts (code_number answer)
 
-pub record LandedAs (x : Landing) (n : ℕ) (u : Counts) (g : MeasureStep) : Type 0 where
+pub record LandedAs (x : Landing) (n : ℕ) (u : Counts) (g : Result (ControlFlow Answer Stage) Refusal) : Type 0 where
   pub is : (tlens trees : List ℕ) (q : Bytes) (l : measure.Landing) → n ≡ length q → LandIs tlens trees q u x l → StepIs tlens trees (λ next. on_landing next u l) g
 
 -- the model's step down to q, and its whole step at the name n in the tree t, from what measures the rest; c is the cache
@@ -86,3 +93,6 @@ down_as T e q i c u next = on_landing next u (landing sha1 T e q u i (find at q 
 
 abbrev pub step_as : Table → Edit → Bool → Bool → Bytes → Bytes → Tree → Cache → Counts → (Tree → Counts → Measured) → Measured
 step_as T e opening is_last q n t c u next = pick_measured (is_nil n) (over 1) (on_sight sha1 T e opening q (find at q c) next (seen is_last e n u (entry_of n t)))
+
+abbrev pub step_for : Task → Bool → Bytes → Bytes → Tree → Cache → Counts → (Tree → Counts → Measured) → Measured
+step_for task = step_as (table_for task) (edit_for task) task.opening

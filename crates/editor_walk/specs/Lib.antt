@@ -5,3 +5,4 @@ pub mod Levels
 pub mod Lookups
 pub mod Seen
 pub mod Steps
+pub mod Tasks

@@ -10,15 +10,15 @@ use Rattle.model.specs.Lookup as model
 use Rattle.names.specs.Answers.{entry}
 use Rattle.store_slots.specs.View.{slots_of, gather}
 use Rattle.editor_terms.specs.Ids.{id_bytes}
-use Rattle.editor_terms.specs.Answers.{code_number}
-use Rattle.editor_terms.specs.declared.code.Code.{Code}
+use Rattle.editor_terms.specs.Answers.{refusal_number}
+use Rattle.editor_terms.specs.declared.refusal.Refusal.{Refusal}
 use Rattle.editor_terms.specs.declared.edit.Seen.{Seen}
 
 -- the model's answer; the entry that is found has this name
-abbrev pub looked_as : Bytes → Result (Opt Seen) Code → model.Looked
+abbrev pub looked_as : Bytes → Result (Opt Seen) Refusal → model.Looked
 looked_as n (Ok (Some s)) = model.found (entry s.kind n (id_bytes s.id))
 looked_as n (Ok None) = model.missing
-looked_as n (Err code) = model.refusal (code_number code)
+looked_as n (Err refusal) = model.refusal (refusal_number refusal)
 
 -- what the model's step gives at the name n in the tree t, with q the path below, from what the rest of the lookup gives
 abbrev pub step_look : List ℕ → List Bytes → Tree → Bytes → Bytes → Bool → List Bytes → model.Looked → model.Looked

@@ -7,3 +7,4 @@ pub mod land;
 pub mod look;
 pub mod measure;
 pub mod seen;
+pub mod task;

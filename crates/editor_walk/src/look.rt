@@ -1,22 +1,29 @@
 // Lookups: the entry at a path, from the tree in a slot, going down through cached trees only.
-ghost use Rattle.std.specs.Prelude.{◌≡◌, true, false, length};
+ghost use Rattle.std.specs.Prelude.{◌≡◌, true, false, length, Ok};
 ghost use Rattle.model.specs.Bytes.{has};
 ghost use Rattle.model.specs.Tree.{well_formed};
 ghost use Rattle.model.specs.Paths.{components, base, full as fullPath};
 ghost use Rattle.model.specs.Lookup.{look as looked_up};
 ghost use Rattle.names_compact.specs.Compact.{unpack, Run};
 ghost use Rattle.store_runs.specs.Digits.{digits};
-ghost use Rattle.store_runs.specs.Runs.{cut, Sound};
-ghost use Rattle.store_slots.specs.View.{view_of, Laid, Used, path_of};
+ghost use Rattle.store_runs.specs.Runs.{cut};
+ghost use Rattle.store_slots.specs.View.{view_of, Used, path_of};
+ghost use Rattle.store_slots.specs.Stores.{KeysSound, LaidSeen};
 ghost use Rattle.editor_walk.specs.Lookups.{looked_as, LookStepIs};
 
 use editor_terms::edit::Seen;
 use std::ops::ControlFlow;
-use store_slots::Record;
+use store_slots::View;
 
 // A lookup at one component of the path, `name`: it is over, or goes on in a slot; `below` is the path of the tree below it.
-fn look_in(v: View<'_>, tree: &[u8], below: &[u8], name: &[u8], last: bool) -> ControlFlow<Option<Seen>, usize>
-    requires { Sound v.plens.now v.paths.now v.ed.paths × (length v.plens.now ≡ 64) × Run 20 tree.now × (well_formed 20 (unpack 20 tree.now) ≡ true) × (has 47 name.now ≡ false) }
+fn look_in(
+    v: View<'_>,
+    tree: &[u8],
+    below: &[u8],
+    name: &[u8],
+    last: bool,
+) -> ControlFlow<Option<Seen>, usize>
+    requires { KeysSound v × (length v.plens.now ≡ 64) × Run 20 tree.now × (well_formed 20 (unpack 20 tree.now) ≡ true) × (has 47 name.now ≡ false) }
     ensures { LookStepIs (digits 64 v.entry.ed.hidden) (cut v.entry.plens.now v.entry.paths.now) (unpack 20 tree.now) below.now name.now «last» result }
 {
     let Some(seen) = crate::seen::seen_in(tree, name, true) else {
@@ -28,7 +35,7 @@ fn look_in(v: View<'_>, tree: &[u8], below: &[u8], name: &[u8], last: bool) -> C
     if !seen.kind.is_tree() {
         return ControlFlow::Break(None);
     }
-    match store_slots::find(ed, plens, paths, below) {
+    match v.find(below) {
         Some(slot) => ControlFlow::Continue(slot),
         None => ControlFlow::Break(None),
     }
@@ -49,10 +56,10 @@ pub fn look(v: View<'_>, full: &[u8], path: &[u8], slot: usize) -> Option<Seen>
         let k = names::path::component_len(p);
         let last = k == p.len();
         let end = full.len() - p.len() + k;
-        let tree = store_slots::tree_in(ed, tlens, trees, at);
+        let tree = v.tree_in(at);
         let below = names::part::front(full, end);
         let name = names::part::front(p, k);
-        match look_in(ed, plens, paths, tree, below, name, last) {
+        match look_in(v, tree, below, name, last) {
             ControlFlow::Break(found) => {
                 return found;
             }

@@ -1,27 +1,26 @@
-// The first pass of an edit: its number, and whether each of its steps keeps the limits. Changes nothing.
-ghost use Rattle.std.specs.Prelude.{◌≡◌, true, false, not, ◌||◌, List, ℕ, ◌≤◌, length};
+// The first pass of an edit: its answer, or that one of its steps passes a limit. Changes nothing.
+ghost use Rattle.std.specs.Prelude.{◌≡◌, true, false, List, ℕ, ◌≤◌, length};
 ghost use Rattle.model.specs.Bytes.{has};
 ghost use Rattle.model.specs.Tree.{Tree};
 ghost use Rattle.model.specs.Paths.{full as fullPath};
 ghost use Rattle.model.specs.Editor.{fits};
-ghost use Rattle.model.specs.Formats.{sha1};
-ghost use Rattle.model.specs.Table.{good_table};
-ghost use Rattle.model.specs.Measure.{within as withinLimits, measure as measured};
-ghost use Rattle.store_runs.specs.Runs.{Sound};
-ghost use Rattle.store_slots.specs.View.{view_of, cached_of, Laid, Used, path_of};
-ghost use Rattle.editor_terms.specs.Answers.{code_number};
-ghost use Rattle.editor_terms.specs.Edits.{as_edit, wanted_by};
-ghost use Rattle.editor_terms.specs.Objects.{table_of};
+ghost use Rattle.model.specs.Measure.{within as withinLimits};
+ghost use Rattle.store_slots.specs.View.{cached_of, Used};
+ghost use Rattle.store_slots.specs.Stores.{KeysSound, LaidSeen};
+ghost use Rattle.editor_terms.specs.Edits.{wanted_by};
 ghost use Rattle.editor_walk.specs.Counted.{counts_as};
-ghost use Rattle.editor_walk.specs.Levels.{Stored, Stands, SeenAt, StepIs, EndsAs, CachesAs, LandedAs, MeasuredAs, down_as, step_as};
+ghost use Rattle.editor_walk.specs.Levels.{Stored, Stands, SeenAt, StepIs, CachesAs, LandedAs, MeasuredAs, down_as, step_for};
+ghost use Rattle.editor_walk.specs.Tasks.{edit_for, measure_for, path_seen, table_for, view_seen};
 
 use crate::counts::Counts;
 use crate::land::Landing;
-use editor_terms::code::Code;
-use editor_terms::edit::{Edit, Seen, Turn};
+use crate::task::Task;
+use editor_terms::edit::{Seen, Turn};
+use editor_terms::refusal::Refusal;
 use names::limits::{ENTRIES, NAME_BYTES};
 use names::tree::Size;
-use store_slots::Record;
+use std::ops::ControlFlow;
+use store_slots::View;
 
 // The tree that the walk would be at: cached in a slot, a raw tree of the table, or an empty one.
 #[derive(Clone, Copy)]
@@ -31,19 +30,9 @@ pub enum Level<'a> {
     Empty,
 }
 
-// What an edit comes to: its number, which is 5 where a step passes a limit, and whether each step keeps the limits.
+// How far the walk would be: the tree at hand, and what would be used by then.
 #[derive(Clone, Copy)]
-pub struct Measured {
-    pub code: Code,
-    pub kept: bool,
-}
-
-// What a step comes to: its number, whether the limits are kept, and whether and where the walk goes on.
-#[derive(Clone, Copy)]
-pub struct MeasureStep<'a> {
-    pub code: Code,
-    pub kept: bool,
-    pub going: bool,
+pub struct Stage<'a> {
     pub level: Level<'a>,
     pub counts: Counts,
 }
@@ -54,154 +43,143 @@ fn seen_at(v: View<'_>, level: Level<'_>, name: &[u8]) -> Option<Seen>
     ensures { SeenAt v.entry.tlens.now v.entry.trees.now level.entry name.now result }
 {
     match level {
-        Level::Slot(slot) => {
-            crate::seen::seen_in(store_slots::tree_in(ed, tlens, trees, slot), name, false)
-        }
+        Level::Slot(slot) => crate::seen::seen_in(v.tree_in(slot), name, false),
         Level::Raw(raw) => crate::seen::seen_in_raw(raw, name),
         Level::Empty => None,
     }
 }
 
-// A step that ends the walk with a number.
-fn ended<'a>(code: Code, kept: bool, u: Counts) -> MeasureStep<'a>
-    ensures { EndsAs (code_number code) kept result }
-{
-    MeasureStep {
-        code,
-        kept,
-        going: false,
-        level: Level::Empty,
-        counts: u,
-    }
-}
-
-// A step down to a tree that is to be cached, of so many entries and bytes of names, at a path of n bytes.
-fn cached<'a>(level: Level<'a>, size: Size, n: usize, u: Counts) -> MeasureStep<'a>
+// A step down to a tree that is to be cached, of this size, at a path of n bytes; refused where it passes a limit.
+fn cached<'a>(level: Level<'a>, size: Size, n: usize, u: Counts) -> Result<Stage<'a>, Refusal>
     requires { (withinLimits (counts_as u) ≡ true) × (n ≤ 1280) }
     ensures { CachesAs level.entry size n (counts_as u) result }
 {
     if ENTRIES < size.entries || NAME_BYTES < size.name_bytes {
-        return ended(Code::NoRoom, false, u);
+        return Err(Refusal::NoRoom);
     }
     let w = crate::counts::with_tree(size, n, u);
     if !crate::counts::within(w) {
-        return ended(Code::NoRoom, false, w);
+        return Err(Refusal::NoRoom);
     }
-    MeasureStep {
-        code: Code::Done,
-        kept: true,
-        going: true,
-        level,
-        counts: w,
-    }
+    Ok(Stage { level, counts: w })
 }
 
-// A step that goes down to a path of n bytes.
-fn landed<'a>(landing: Landing<'a>, n: usize, u: Counts) -> MeasureStep<'a>
+// A step that goes down to a path of n bytes: it ends the walk with an answer, or goes on; refused where it passes a limit.
+fn landed<'a>(
+    landing: Landing<'a>,
+    n: usize,
+    u: Counts,
+) -> Result<ControlFlow<Result<(), Refusal>, Stage<'a>>, Refusal>
     requires { (withinLimits (counts_as u) ≡ true) × (n ≤ 1280) }
     ensures { LandedAs landing.entry n (counts_as u) result }
 {
-    match landing {
-        Landing::There(slot) => MeasureStep {
-            code: Code::Done,
-            kept: true,
-            going: true,
+    let stage = match landing {
+        Landing::There(slot) => Stage {
             level: Level::Slot(slot),
             counts: u,
         },
-        Landing::Halt(code) => ended(code, true, u),
-        Landing::Fresh => cached(
-            Level::Empty,
-            Size {
+        Landing::Halt(answer) => {
+            return Ok(ControlFlow::Break(answer));
+        }
+        Landing::Fresh => {
+            let none = Size {
                 entries: 0,
                 name_bytes: 0,
-            },
-            n,
-            u,
-        ),
-        Landing::Load(raw) => cached(Level::Raw(raw.bytes), raw.size, n, u),
-    }
+            };
+            cached(Level::Empty, none, n, u)?
+        }
+        Landing::Load(raw) => cached(Level::Raw(raw.bytes), raw.size, n, u)?,
+    };
+    Ok(ControlFlow::Continue(stage))
 }
 
 // The step down after a turn, to the path `below`.
-fn go_down<'a>(v: View<'_>, table: Objects<'_>, below: &[u8], turn: Turn, edit: Edit, u: Counts) -> MeasureStep<'a>
-    requires { Sound v.plens.now v.paths.now v.ed.paths × (length v.plens.now ≡ 64) × (good_table 20 (objects_in table) ≡ true)
-        × (withinLimits (counts_as u) ≡ true) × (length below.now ≤ 1280) }
+fn go_down<'a>(
+    v: View<'_>,
+    task: Task<'a>,
+    below: &[u8],
+    turn: Turn,
+    u: Counts,
+) -> Result<ControlFlow<Result<(), Refusal>, Stage<'a>>, Refusal>
+    requires { KeysSound v × (length v.plens.now ≡ 64) × (withinLimits (counts_as u) ≡ true) × (length below.now ≤ 1280) }
     ensures { (tlens trees : List ℕ) → length tlens ≡ 64 → StepIs tlens trees
-        (down_as (objects_in table.entry) (as_edit edit) below.now (wanted_by turn) (cached_of 20 v.entry.ed v.entry.plens.now v.entry.paths.now tlens trees) (counts_as u)) result }
+        (down_as (table_for task.entry) (edit_for task.entry) below.now (wanted_by turn) (cached_of 20 v.entry.ed v.entry.plens.now v.entry.paths.now tlens trees) (counts_as u)) result }
 {
     let wanted = turn.wanted();
-    let leaf = edit.is_leaf_removal();
-    let landing = crate::land::land(ed, plens, paths, ids, ends, raws, below, wanted, leaf);
+    let leaf = task.edit.is_leaf_removal();
+    let landing = crate::land::land(v, task.table, below, wanted, leaf);
     landed(landing, below.len(), u)
 }
 
 // One step: the edit at the component `name`, with the path `below` of the tree below it.
-fn step<'a>(v: View<'_>, table: Objects<'_>, below: &[u8], name: &[u8], edit: Edit, last: bool, opening: bool, level: Level<'a>, u: Counts) -> MeasureStep<'a>
-    requires { Sound v.plens.now v.paths.now v.ed.paths × (length v.plens.now ≡ 64) × Stored v.ed.trees v.tlens.now v.trees.now
-        × (good_table 20 (objects_in table) ≡ true) × ((t : Tree) × Stands v.tlens.now v.trees.now level t)
-        × (has 47 name.now ≡ false) × (length below.now ≤ 1280) × (length name.now ≤ 1280) × (withinLimits (counts_as u) ≡ true) }
-    ensures { (t : Tree) → Stands v.entry.tlens.now v.entry.trees.now level.entry t → StepIs v.entry.tlens.now v.entry.trees.now
-        (step_as (objects_in table.entry) (as_edit edit) opening «last» below.now name.now t
-        (cached_of 20 v.entry.ed v.entry.plens.now v.entry.paths.now v.entry.tlens.now v.entry.trees.now) (counts_as u)) result }
+fn step<'a>(
+    v: View<'_>,
+    task: Task<'a>,
+    below: &[u8],
+    name: &[u8],
+    last: bool,
+    stage: Stage<'a>,
+) -> Result<ControlFlow<Result<(), Refusal>, Stage<'a>>, Refusal>
+    requires { KeysSound v × (length v.plens.now ≡ 64) × Stored v.ed.trees v.tlens.now v.trees.now
+        × ((t : Tree) × Stands v.tlens.now v.trees.now stage.level t)
+        × (has 47 name.now ≡ false) × (length below.now ≤ 1280) × (length name.now ≤ 1280) × (withinLimits (counts_as stage.counts) ≡ true) }
+    ensures { (t : Tree) → Stands v.entry.tlens.now v.entry.trees.now stage.entry.level t → StepIs v.entry.tlens.now v.entry.trees.now
+        (step_for task.entry «last» below.now name.now t
+        (cached_of 20 v.entry.ed v.entry.plens.now v.entry.paths.now v.entry.tlens.now v.entry.trees.now) (counts_as stage.entry.counts)) result }
 {
     let n = name.len();
     if n == 0 {
-        return ended(Code::EmptyComponent, true, u);
+        return Ok(ControlFlow::Break(Err(Refusal::EmptyComponent)));
     }
-    let seen = seen_at(ed, tlens, trees, level, name);
-    let turn = edit.turn(last, seen);
-    let v = crate::counts::turned(turn, seen, n, u);
-    if !crate::counts::within(v) {
-        return ended(Code::NoRoom, false, v);
+    let seen = seen_at(v, stage.level, name);
+    let turn = task.edit.turn(last, seen);
+    let u = crate::counts::turned(turn, seen, n, stage.counts);
+    if !crate::counts::within(u) {
+        return Err(Refusal::NoRoom);
     }
-    if !turn.goes_down(last, opening) {
-        return ended(turn.end_code(), true, v);
+    if !turn.goes_down(last, task.opening) {
+        return Ok(ControlFlow::Break(turn.answer()));
     }
-    go_down(ed, plens, paths, ids, ends, raws, below, turn, edit, v)
+    go_down(v, task, below, turn, u)
 }
 
-// Whether a step is the walk's last: a limit is passed, or the walk stops, or the path is at its end.
-fn is_over(kept: bool, going: bool, last: bool) -> bool
-    ensures { result ≡ (not kept || (not going || last)) }
-{
-    !kept || !going || last
-}
-
-// The number of an edit, and whether each of its steps keeps the limits, from the tree in a slot; `full` is that tree's path with the path.
-pub fn measure(v: View<'_>, table: Objects<'_>, full: &[u8], path: &[u8], edit: Edit, opening: bool, slot: usize) -> Measured
-    requires { LaidSeen 20 v × (v.ed.hidden ≡ v.ed.free) × (fits (view_of 20 v.ed v.plens.now v.paths.now v.tlens.now v.trees.now) ≡ true)
-        × (good_table 20 (objects_in table) ≡ true) × Used v.ed slot × (full.now ≡ fullPath (path_of v.plens.now v.paths.now slot) path.now) × (length full.now ≤ 1280) }
-    ensures { MeasuredAs (measured sha1 (objects_in table.entry) (as_edit edit) opening (path_of v.entry.plens.now v.entry.paths.now slot) path.now
-        (view_of 20 v.entry.ed v.entry.plens.now v.entry.paths.now v.entry.tlens.now v.entry.trees.now)) result }
+// The answer of an edit whose steps each keep the limits, from the tree in a slot; else the refusal. `full` is that tree's path with the path.
+pub fn measure(
+    v: View<'_>,
+    task: Task<'_>,
+    full: &[u8],
+    path: &[u8],
+    slot: usize,
+) -> Result<Result<(), Refusal>, Refusal>
+    requires { LaidSeen 20 v × (v.ed.hidden ≡ v.ed.free) × (fits (view_seen v) ≡ true)
+        × Used v.ed slot × (full.now ≡ fullPath (path_seen v slot) path.now) × (length full.now ≤ 1280) }
+    ensures { MeasuredAs (measure_for task.entry (path_seen v.entry slot) path.now (view_seen v.entry)) result }
 {
     if path.len() == 0 {
-        return Measured {
-            code: Code::Done,
-            kept: true,
-        };
+        return Ok(Ok(()));
     }
     let mut p = path;
-    let mut level = Level::Slot(slot);
-    let mut u = crate::counts::counts_of(ed);
+    let mut stage = Stage {
+        level: Level::Slot(slot),
+        counts: crate::counts::counts_of(v.ed),
+    };
     loop {
         let k = names::path::component_len(p);
         let last = k == p.len();
         let end = full.len() - p.len() + k;
         let below = names::part::front(full, end);
         let name = names::part::front(p, k);
-        let g = step(
-            ed, plens, paths, tlens, trees, ids, ends, raws, below, name, edit, last, opening,
-            level, u,
-        );
-        if is_over(g.kept, g.going, last) {
-            return Measured {
-                code: g.code,
-                kept: g.kept,
-            };
+        match step(v, task, below, name, last, stage)? {
+            ControlFlow::Break(answer) => {
+                return Ok(answer);
+            }
+            ControlFlow::Continue(next) => {
+                stage = next;
+            }
         }
-        level = g.level;
-        u = g.counts;
+        if last {
+            return Ok(Ok(()));
+        }
         p = names::path::tail(p, k);
     }
 }

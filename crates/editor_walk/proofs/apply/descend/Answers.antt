@@ -1,44 +1,54 @@
 -- `editor_walk::apply::descend` meets its contract, by what was found. Assumes nothing.
+use mathlib.Core.Path.{refl}
 use native.Mathlib.Omega.{arith}
-use Rattle.store_slots.specs.View.{view_of}
+use Rattle.store_slots.specs.Stores.{view_in}
 use Rattle.editor_walk.proofs.DownLaws.{down_there, down_halt, fresh_fits, load_fits, down_fresh, down_load, raw_size, raw_fits}
 use Rattle.editor_walk.proofs.apply.descend.Goals as goal
 
-pub add_empty-t-requires : goal.add_empty-t-requires
-add_empty-t-requires c =
-    let a = c.args in
-    let f = fresh_fits a.ed a.plens.now a.paths.now a.tlens.now a.trees.now a.below.now a.landing c.requires.2 c.in-Fresh.is in
+pub add_empty-requires : goal.add_empty-requires
+add_empty-requires c =
+    let f = fresh_fits c.args.s.now c.args.below.now c.args.landing c.requires.2 c.in-Fresh.is in
     (c.requires.0, c.requires.1, f.0, f.1)
 
-pub load-t-requires : goal.load-t-requires
-load-t-requires c =
+pub load-slot-requires : goal.load-slot-requires
+load-slot-requires c =
     let a = c.args in
-    let f = load_fits a.ed a.plens.now a.paths.now a.tlens.now a.trees.now a.below.now a.landing c.requires.2 c.in-Load.is in
+    let f = load_fits a.s.now a.below.now a.landing c.requires.2 c.in-Load.is in
     let k = f.1.1 in (
       c.requires.0,
       omega arith,
       c.requires.1,
       raw_size k,
       f.0,
-      raw_fits k a.below.now (view_of 20 a.ed a.plens.now a.paths.now a.tlens.now a.trees.now) f.1.2,
+      raw_fits k a.below.now (view_in 20 a.s.now) f.1.2,
     )
 
 pub returns-in-There : goal.returns-in-There
 returns-in-There c =
-    let a = c.args in
-    down_there a.ed a.plens.now a.paths.now a.tlens.now a.trees.now a.below.now a.landing c.requires.2 c.requires.0 c.requires.1 c.in-There.is
+    record {
+      done = down_there c.args.s.now c.args.below.now c.args.landing c.requires.2 c.requires.0 c.requires.1 c.in-There.is;
+      lent = record { plens = refl; paths = refl; tlens = refl; trees = refl };
+    }
 
 pub returns-in-Halt : goal.returns-in-Halt
 returns-in-Halt c =
-    let a = c.args in
-    down_halt a.ed a.plens.now a.paths.now a.tlens.now a.trees.now a.below.now a.landing c.requires.2 c.requires.0 c.requires.1 c.in-Halt.is
+    record {
+      done = down_halt c.args.s.now c.args.below.now c.args.landing c.requires.2 c.requires.0 c.requires.1 c.in-Halt.is;
+      lent = record { plens = refl; paths = refl; tlens = refl; trees = refl };
+    }
 
 pub returns-in-Fresh : goal.returns-in-Fresh
 returns-in-Fresh c =
-    let a = c.args in
-    down_fresh a.ed a.plens.now a.paths.now a.tlens.now a.trees.now a.below.now a.landing c.requires.2 (record { laid = c.add_empty-t.ensures.laid; closed = c.add_empty-t.ensures.same.0; write = c.add_empty-t.ensures.same.1 }) (c.add_empty-t.ensures.slot.0, c.add_empty-t.ensures.slot.1) c.in-Fresh.is c.add_empty-t.ensures.view
+    let e = c.add_empty.ensures in
+    record {
+      done = down_fresh c.args.s.now c.args.below.now c.args.landing c.requires.2 (record { laid = e.laid; closed = e.same.0; write = e.same.1 }) e.slot c.in-Fresh.is e.view;
+      lent = e.lent;
+    }
 
 pub returns-in-Load : goal.returns-in-Load
 returns-in-Load c =
-    let a = c.args in
-    down_load a.ed a.plens.now a.paths.now a.tlens.now a.trees.now a.below.now a.landing c.requires.2 (record { laid = c.load-t.ensures.laid; closed = c.load-t.ensures.same.0; write = c.load-t.ensures.same.1 }) (c.load-t.ensures.slot.0, c.load-t.ensures.slot.1) c.in-Load.is (λ t k. c.load-t.ensures.view t k.reads)
+    let e = c.load-slot.ensures in
+    record {
+      done = down_load c.args.s.now c.args.below.now c.args.landing c.requires.2 (record { laid = e.laid; closed = e.same.0; write = e.same.1 }) (e.slot.0, e.slot.1) c.in-Load.is (λ t k. e.view t k.reads);
+      lent = e.lent;
+    }

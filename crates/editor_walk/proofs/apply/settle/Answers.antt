@@ -1,31 +1,37 @@
 -- `editor_walk::apply::settle` meets its contract: the first pass decides whether the second is made. Assumes nothing.
-use mathlib.Core.Path.{sym, ap, ◌∙◌}
+use mathlib.Core.Path.{ap}
 use native.Mathlib.Omega.{arith}
 use lib.ListN.{length}
-use Rattle.model.proofs.Basics.{not_true, not_false}
-use Rattle.store_slots.specs.View.{path_of}
+use Rattle.store_slots.specs.Stores.{path_in_slot}
 use Rattle.editor_terms.specs.Edits.{as_edit}
-use Rattle.editor_terms.specs.Objects.{table_of}
-use Rattle.editor_walk.proofs.SettleLaws.{short_path, view_fits, kept_is, settle_none, settle_walk}
+use Rattle.editor_terms.specs.Tables.{objects_in}
+use Rattle.editor_walk.proofs.SettleLaws.{short_path, view_fits, walk_kept, settle_none, settle_walk}
+use Rattle.editor_walk.proofs.MeasureLaws.{passed_on}
 use Rattle.editor_walk.proofs.apply.settle.Goals as goal
 
-pub measure-m-requires : goal.measure-m-requires
-measure-m-requires c =
+pub measure-measured-requires : goal.measure-measured-requires
+measure-measured-requires c =
     let a = c.args in
-    let h = short_path (path_of a.plens.now a.paths.now a.slot) a.path.now c.requires.5 in
-    (c.requires.0, c.requires.1, view_fits (table_of a.ids.now a.ends.now a.raws.now) (as_edit a.edit) a.opening a.ed a.plens.now a.paths.now a.tlens.now a.trees.now c.requires.0 c.requires.1 a.slot c.requires.2 a.path.now c.requires.6, c.requires.3, c.requires.2, c.requires.4, omega (arith, h, ap length c.requires.4))
+    let v = c.view.ensures in
+    let h = short_path (path_in_slot a.s.now a.slot) a.path.now c.requires.4 in
+    rw (v.ed, v.plens, v.paths, v.tlens, v.trees)
+    (c.requires.0, c.requires.1, view_fits (objects_in a.table) (as_edit a.edit) a.opening a.s.now c.requires.0 c.requires.1 a.slot c.requires.2 a.path.now c.requires.5, c.requires.2, c.requires.3, omega (arith, h, ap length c.requires.3))
 
-pub returns-then-not-m : goal.returns-then-not-m
-returns-then-not-m c =
+pub returns-in_err-measured-clause-done : goal.returns-in_err-measured-clause-done
+returns-in_err-measured-clause-done c =
     let a = c.args in
-    settle_none (table_of a.ids.now a.ends.now a.raws.now) (as_edit a.edit) a.opening a.ed a.plens.now a.paths.now a.tlens.now a.trees.now c.requires.0 c.requires.1 a.slot c.requires.2 a.path.now c.requires.6 c.measure-m.ensures (not_true _ c.if-not-m.true)
+    let v = c.view.ensures in
+    rw (passed_on _ c.from_residual.ensures.1)
+    (settle_none (objects_in a.table) (as_edit a.edit) a.opening a.s.now c.requires.0 c.requires.1 a.slot c.requires.2 a.path.now c.requires.5 (rw (v.ed, v.plens, v.paths, v.tlens, v.trees) at c.measure-measured.ensures) c.in_err-measured.was)
 
 pub walk-requires : goal.walk-requires
 walk-requires c =
     let a = c.args in
-    (c.requires.0, c.requires.1, c.requires.2, c.requires.3, c.requires.4, c.requires.5, sym (kept_is (table_of a.ids.now a.ends.now a.raws.now) (as_edit a.edit) a.opening a.ed a.plens.now a.paths.now a.tlens.now a.trees.now c.requires.0 c.requires.1 a.slot c.requires.2 a.path.now c.requires.6 c.measure-m.ensures) ∙ not_false _ c.if-not-m.false)
+    let v = c.view.ensures in
+    (c.requires.0, c.requires.1, c.requires.2, c.requires.3, c.requires.4, walk_kept (objects_in a.table) (as_edit a.edit) a.opening a.s.now c.requires.0 c.requires.1 a.slot c.requires.2 a.path.now c.requires.5 (rw (v.ed, v.plens, v.paths, v.tlens, v.trees) at c.measure-measured.ensures) c.in_ok-measured.was)
 
-pub returns : goal.returns
-returns c =
+pub returns-clause-done : goal.returns-clause-done
+returns-clause-done c =
     let a = c.args in
-    settle_walk (table_of a.ids.now a.ends.now a.raws.now) (as_edit a.edit) a.opening a.ed a.plens.now a.paths.now a.tlens.now a.trees.now c.requires.0 c.requires.1 a.slot c.requires.2 a.path.now c.requires.6 c.measure-m.ensures (not_false _ c.if-not-m.false) c.walk.ensures
+    let v = c.view.ensures in
+    settle_walk (objects_in a.table) (as_edit a.edit) a.opening a.s.now c.requires.0 c.requires.1 a.slot c.requires.2 a.path.now c.requires.5 (rw (v.ed, v.plens, v.paths, v.tlens, v.trees) at c.measure-measured.ensures) c.in_ok-measured.was c.walk.ensures.done

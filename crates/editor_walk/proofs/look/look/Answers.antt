@@ -16,12 +16,12 @@ use Rattle.editor_walk.proofs.look.look.Goals as goal
 pub returns-then-path-eq0 : goal.returns-then-path-eq0
 returns-then-path-eq0 c =
     let a = c.args in
-    look_empty a.path.now (path_of a.plens.now a.paths.now a.slot) (view_of 20 a.ed a.plens.now a.paths.now a.tlens.now a.trees.now) c.if-path-eq0.true
+    look_empty a.path.now (path_of a.v.plens.now a.v.paths.now a.slot) (view_of 20 a.v.ed a.v.plens.now a.v.paths.now a.v.tlens.now a.v.trees.now) c.if-path-eq0.true
 
 pub loop-found-init : goal.loop-found-init
 loop-found-init c =
     let a = c.args in
-    look_begin a.ed a.plens.now a.paths.now a.tlens.now a.trees.now a.full.now a.path.now a.slot c.requires.2 c.requires.3 c.if-path-eq0.false
+    look_begin a.v.ed a.v.plens.now a.v.paths.now a.v.tlens.now a.v.trees.now a.full.now a.path.now a.slot c.requires.2 c.requires.3 c.if-path-eq0.false
 
 pub overflow_sub-end : goal.overflow_sub-end
 overflow_sub-end c = omega (arith, front_long c.loop-found.invariant.front)
@@ -39,8 +39,8 @@ look_in-requires c =
     let low = c.loop-found.invariant.used.low in (
       c.requires.0.paths_sound,
       c.requires.0.plens_64,
-      subst (Run 20) (sym run) (searched_run 20 a.ed a.plens.now a.paths.now a.tlens.now a.trees.now c.requires.0 c.loop-found.at low),
-      ap (λ t. well_formed 20 t) (ap (unpack 20) run ∙ tree_run 20 a.ed a.plens.now a.paths.now a.tlens.now a.trees.now c.requires.0 c.loop-found.at low) ∙ c.requires.0.well c.loop-found.at low,
+      subst (Run 20) (sym run) (searched_run 20 a.v.ed a.v.plens.now a.v.paths.now a.v.tlens.now a.v.trees.now c.requires.0 c.loop-found.at low),
+      ap (λ t. well_formed 20 t) (ap (unpack 20) run ∙ tree_run 20 a.v.ed a.v.plens.now a.v.paths.now a.v.tlens.now a.v.trees.now c.requires.0 c.loop-found.at low) ∙ c.requires.0.well c.loop-found.at low,
       ap (has 47) c.front-name.ensures ∙ piece_plain c.loop-found.p.now c.component_len-k.result c.component_len-k.ensures,
     )
 

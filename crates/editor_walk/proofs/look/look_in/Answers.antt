@@ -23,17 +23,17 @@ entry_seen : (c : goal.Then-last) → seen_as (Some c.in-Some.seen) ≡ parts_of
 entry_seen c = sym (ap seen_as c.in-Some.is) ∙ c.seen_in.ensures
 
 pub returns-then-last : goal.returns-then-last
-returns-then-last c = look_found (digits 64 c.args.ed.hidden) (cut c.args.plens.now c.args.paths.now) (unpack 20 c.args.tree.now) c.args.below.now c.args.name.now c.requires.3 c.requires.4 c.in-Some.seen (entry_seen c) c.args.last c.if-last.true
+returns-then-last c = look_found (digits 64 c.args.v.ed.hidden) (cut c.args.v.plens.now c.args.v.paths.now) (unpack 20 c.args.tree.now) c.args.below.now c.args.name.now c.requires.3 c.requires.4 c.in-Some.seen (entry_seen c) c.args.last c.if-last.true
 
 -- the entry that was seen
 entry_seen-2 : (c : goal.Then-not-is_tree) → seen_as (Some c.in-Some.seen) ≡ parts_of (entry_of_lookup c.args.name.now (unpack 20 c.args.tree.now))
 entry_seen-2 c = sym (ap seen_as c.in-Some.is) ∙ c.seen_in.ensures
 
 pub returns-then-not-is_tree : goal.returns-then-not-is_tree
-returns-then-not-is_tree c = look_other (digits 64 c.args.ed.hidden) (cut c.args.plens.now c.args.paths.now) (unpack 20 c.args.tree.now) c.args.below.now c.args.name.now c.requires.3 c.requires.4 c.in-Some.seen (entry_seen-2 c) c.args.last c.if-last.false (sym c.is_tree.ensures ∙ not_true _ c.if-not-is_tree.true-raw)
+returns-then-not-is_tree c = look_other (digits 64 c.args.v.ed.hidden) (cut c.args.v.plens.now c.args.v.paths.now) (unpack 20 c.args.tree.now) c.args.below.now c.args.name.now c.requires.3 c.requires.4 c.in-Some.seen (entry_seen-2 c) c.args.last c.if-last.false (sym c.is_tree.ensures ∙ not_true _ c.if-not-is_tree.true-raw)
 
 pub returns-in_default : goal.returns-in_default
-returns-in_default c = look_none (digits 64 c.args.ed.hidden) (cut c.args.plens.now c.args.paths.now) (unpack 20 c.args.tree.now) c.args.below.now c.args.name.now c.args.last (sym (ap seen_as c.in_default.is) ∙ c.seen_in.ensures)
+returns-in_default c = look_none (digits 64 c.args.v.ed.hidden) (cut c.args.v.plens.now c.args.v.paths.now) (unpack 20 c.args.tree.now) c.args.below.now c.args.name.now c.args.last (sym (ap seen_as c.in_default.is) ∙ c.seen_in.ensures)
 
 -- the entry that was seen
 entry_seen-3 : (c : goal.In-Some-find) → seen_as (Some c.in-Some.seen) ≡ parts_of (entry_of_lookup c.args.name.now (unpack 20 c.args.tree.now))
@@ -41,8 +41,8 @@ entry_seen-3 c = sym (ap seen_as c.in-Some.is) ∙ c.seen_in.ensures
 
 pub returns-in-Some-find : goal.returns-in-Some-find
 returns-in-Some-find c =
-    look_on_lem (digits 64 c.args.ed.hidden) (cut c.args.plens.now c.args.paths.now) (unpack 20 c.args.tree.now) c.args.below.now c.args.name.now c.requires.3 c.requires.4 c.in-Some.seen (entry_seen-3 c) c.args.last c.if-last.false (sym c.is_tree.ensures ∙ not_false _ c.if-not-is_tree.false-raw) (length_digits 64 c.args.ed.hidden) (length_cut c.args.plens.now c.args.paths.now ∙ c.requires.1) c.in-Some-find.slot
-    (λ v runs l. subst (λ (z : Option ℕ). SlotIs v (digits 64 c.args.ed.hidden) (cut c.args.plens.now c.args.paths.now) runs c.args.below.now z) c.in-Some-find.is (c.find.ensures v runs l))
+    look_on_lem (digits 64 c.args.v.ed.hidden) (cut c.args.v.plens.now c.args.v.paths.now) (unpack 20 c.args.tree.now) c.args.below.now c.args.name.now c.requires.3 c.requires.4 c.in-Some.seen (entry_seen-3 c) c.args.last c.if-last.false (sym c.is_tree.ensures ∙ not_false _ c.if-not-is_tree.false-raw) (length_digits 64 c.args.v.ed.hidden) (length_cut c.args.v.plens.now c.args.v.paths.now ∙ c.requires.1) c.in-Some-find.slot
+    (λ v runs l. subst (λ (z : Option ℕ). SlotIs v (digits 64 c.args.v.ed.hidden) (cut c.args.v.plens.now c.args.v.paths.now) runs c.args.below.now z) c.in-Some-find.is (c.find.ensures v runs l))
 
 -- the entry that was seen
 entry_seen-4 : (c : goal.In-None) → seen_as (Some c.in-Some.seen) ≡ parts_of (entry_of_lookup c.args.name.now (unpack 20 c.args.tree.now))
@@ -50,5 +50,5 @@ entry_seen-4 c = sym (ap seen_as c.in-Some.is) ∙ c.seen_in.ensures
 
 pub returns-in-None : goal.returns-in-None
 returns-in-None c =
-    look_uncached (digits 64 c.args.ed.hidden) (cut c.args.plens.now c.args.paths.now) (unpack 20 c.args.tree.now) c.args.below.now c.args.name.now c.requires.3 c.requires.4 c.in-Some.seen (entry_seen-4 c) c.args.last c.if-last.false
-    (λ v runs l. subst (λ (z : Option ℕ). SlotIs v (digits 64 c.args.ed.hidden) (cut c.args.plens.now c.args.paths.now) runs c.args.below.now z) c.in-None.is (c.find.ensures v runs l))
+    look_uncached (digits 64 c.args.v.ed.hidden) (cut c.args.v.plens.now c.args.v.paths.now) (unpack 20 c.args.tree.now) c.args.below.now c.args.name.now c.requires.3 c.requires.4 c.in-Some.seen (entry_seen-4 c) c.args.last c.if-last.false
+    (λ v runs l. subst (λ (z : Option ℕ). SlotIs v (digits 64 c.args.v.ed.hidden) (cut c.args.v.plens.now c.args.v.paths.now) runs c.args.below.now z) c.in-None.is (c.find.ensures v runs l))

@@ -7,10 +7,10 @@ use Rattle.editor_walk.proofs.measure.cached.Goals as goal
 
 pub returns-then-size-gt-ENTRIES : goal.returns-then-size-gt-ENTRIES
 returns-then-size-gt-ENTRIES c =
-    elim c.then-size-gt-ENTRIES.either [ inl h ↦ cached_entries h c.ended.ensures | inr h ↦ cached_names h.1 c.ended.ensures ]
+    elim c.then-size-gt-ENTRIES.either [ inl h ↦ cached_entries h | inr h ↦ cached_names h.1 ]
 
 pub returns-then-not-within : goal.returns-then-not-within
-returns-then-not-within c = cached_past c.with_tree-w.result c.with_tree-w.ensures (sym c.within.ensures ∙ not_true _ c.if-not-within.true-raw) c.ended-then-not-within.ensures
+returns-then-not-within c = cached_past c.with_tree-w.result c.with_tree-w.ensures (sym c.within.ensures ∙ not_true _ c.if-not-within.true-raw)
 
 pub returns : goal.returns
 returns c = cached_on c.with_tree-w.result c.with_tree-w.ensures (sym c.within.ensures ∙ not_false _ c.if-not-within.false-raw)

@@ -10,13 +10,13 @@ use Rattle.editor_walk.proofs.measure.seen_at.Goals as goal
 
 pub tree_in-requires : goal.tree_in-requires
 tree_in-requires c =
-    let y = stands_as c.args.tlens.now c.args.trees.now c.requires.1.0 c.in-Slot.is c.requires.1.1 in
+    let y = stands_as c.args.v.tlens.now c.args.v.trees.now c.requires.1.0 c.in-Slot.is c.requires.1.1 in
     (c.requires.0.sound, omega (arith, c.requires.0.all, y.0))
 
 pub seen_in-requires : goal.seen_in-requires
 seen_in-requires c =
     let k = c.in-Slot.slot in
-    let y = stands_as c.args.tlens.now c.args.trees.now c.requires.1.0 c.in-Slot.is c.requires.1.1 in (
+    let y = stands_as c.args.v.tlens.now c.args.v.trees.now c.requires.1.0 c.in-Slot.is c.requires.1.1 in (
       subst (Run 20) (sym c.tree_in.ensures) (c.requires.0.runs k y.0),
       ap (λ (t : Tree). rising key t) (ap (unpack 20) c.tree_in.ensures ∙ stored_tree c.requires.0 k y.0) ∙ c.requires.0.order k y.0,
     )
@@ -25,7 +25,7 @@ pub returns-in-Slot : goal.returns-in-Slot
 returns-in-Slot c =
     record {
       is = λ t h.
-          let y = stands_as c.args.tlens.now c.args.trees.now t c.in-Slot.is h in
+          let y = stands_as c.args.v.tlens.now c.args.v.trees.now t c.in-Slot.is h in
           c.seen_in.ensures ∙ ap (λ (z : Tree). parts_of (entry_of c.args.name.now z)) (ap (unpack 20) c.tree_in.ensures ∙ stored_tree c.requires.0 c.in-Slot.slot y.0 ∙ sym y.1);
     }
 
@@ -33,9 +33,9 @@ pub returns-in-Raw : goal.returns-in-Raw
 returns-in-Raw c =
     record {
       is = λ t h.
-          let y = stands_as c.args.tlens.now c.args.trees.now t c.in-Raw.is h in
+          let y = stands_as c.args.v.tlens.now c.args.v.trees.now t c.in-Raw.is h in
           c.seen_in_raw.ensures.is t y;
     }
 
 pub returns-in-Empty : goal.returns-in-Empty
-returns-in-Empty c = record { is = λ t h. ap (λ (z : Tree). parts_of (entry_of c.args.name.now z)) (sym (stands_as c.args.tlens.now c.args.trees.now t c.in-Empty.is h)) }
+returns-in-Empty c = record { is = λ t h. ap (λ (z : Tree). parts_of (entry_of c.args.name.now z)) (sym (stands_as c.args.v.tlens.now c.args.v.trees.now t c.in-Empty.is h)) }
