@@ -273,19 +273,10 @@ pub record Passed (a b : Bytes) (n i : ℕ) : Type 0 where
   pub within : i ≤ n
   pub same : take i a ≡ take i b
 
-pub passed_begin : (a b : Bytes) (n : ℕ) → Passed a b n 0
-passed_begin a b n = record { within = omega arith; same = refl }
-
 module _ {a b : Bytes} {n i : ℕ} (at : Passed a b n i) where
-  pub passed_end : {j : ℕ} → j ≡ i → n < i + 8 → AlikeTo a b n j
-  passed_end e h = rw e (record { within = at.within; same = at.same; stop = λ g. absurd (omega arith) })
-
   module _ {x y : ℕ} where
     pub passed_more : {j : ℕ} → j ≡ i + 8 → i + 8 ≤ n → LowAt a i x → LowAt b i y → x ≡ y → Passed a b n j
     passed_more f h p q e = rw f (record { within = h; same = eight_more i a b at.same (alike_block p q e) })
-
-    pub passed_differ : LowAt a i x → LowAt b i y → (x ≡ y → ⊥) → AlikeTo a b n i
-    passed_differ p q ne = record { within = at.within; same = at.same; stop = λ _ e. ne (p.is ∙ ap low_number e ∙ sym q.is) }
 
 -- The order of two names by their first eight bytes that differ.
 module _ {a b : Bytes} {n i v w : ℕ} (s : AlikeTo a b n i) (h : i + 8 ≤ n) (left : n ≤ length a) (right : n ≤ length b) (p : LowAt a i v) (q : LowAt b i w) where

@@ -39,18 +39,6 @@ pub twin_begin : (later : Option Tree) (name : Bytes) → Twinning later name la
 twin_begin later name = record { rest = λ es p. (es, p, refl) }
 
 module _ {later : Option Tree} {name : Bytes} {here : Option Tree} (s : Twinning later name here) where
-  pub twin_end : here ≡ some [] → TwinIs name later false
-  unfolding tree_among
-  twin_end h = record {
-    is = λ es p.
-        let x = s.rest es p in
-        let d : x.0 ≡ [] = some_inj x.0 [] (sym x.1 ∙ h) in
-        sym (x.2 ∙ ap (tree_among name) d);
-  }
-
-  pub twin_damaged : {b : Bool} → here ≡ none → TwinIs name later b
-  twin_damaged h = record { is = λ es p. let x = s.rest es p in none_some x.0 (sym h ∙ x.1) }
-
   module _ {d : Entry} {there : Option Tree} (e : Begins here d there) (o : std.Ordering) (eo : as_ordering o ≡ cmp (key d) (as_kind true name)) where
     next_one : (es : Tree) → later ≡ some es → (cs : Tree) × (there ≡ some cs) × (tree_among name es ≡ by (as_ordering o) (tree_among name cs) true false)
     unfolding tree_among
@@ -155,12 +143,6 @@ module _ {p : Bytes} {pt : Bool} {n : Bytes} {t : Bool} {later : Option Tree} {o
         let l : cmp p (as_kind t n) ≡ Ordering.lt = ap (λ (z : Bool). cmp (as_kind z p) (as_kind t n)) (sym x.1) ∙ besides_less p pt n t x.0 in
         early p es (after_less p (as_kind t n) es l (after_all (as_kind t n) es v)) (proper (as_kind t n) es v) ∙ sym (eb.is es q)
 
-    pub fit_twin : b ≡ true → FitsIs p pt n t later false
-    fit_twin h = record { may = λ q. absurd (false≢true q); is = λ es q w. rw (inside.0, there es q w, h) }
-
-    pub fit_alone : b ≡ false → FitsIs p pt n t later true
-    fit_alone h = record { may = λ q. inside.0; is = λ es q w. rw (inside.0, there es q w, h) }
-
     -- so the search decides
     pub fit_within : FitsIs p pt n t later (not b)
     fit_within = record { may = λ q. inside.0; is = λ es q w. rw (inside.0, there es q w) }
@@ -220,17 +202,6 @@ none_empty (e ∷ es) h = go (same [] e.name) refl (none_empty es h.2)
     go : (t : Bool) → same [] e.name ≡ t → among [] (names_of es) ≡ false → (t || among [] (names_of es)) ≡ false
     go true q ih = absurd (false≢true (ap good_name (same_eq [] e.name q) ∙ h.0))
     go false q ih = ih
-
--- any good name may stand first
-pub fit_first : {p : Bytes} {pt : Bool} {n : Bytes} {t : Bool} {later : Option Tree} → p ≡ [] → pt ≡ false → good_name n ≡ true → FitsIs p pt n t later true
-fit_first {p} {pt} {n} {t} e f g =
-    let x : besides p pt n t ≡ true = ap (λ (l : Bytes). besides l pt n t) e ∙ ap (λ (b : Bool). besides [] b n t) f ∙ first_besides n t g in
-    record {
-      may = λ q. x;
-      is = λ es q w.
-          let a : among p (names_of es) ≡ false = ap (λ (l : Bytes). among l (names_of es)) e ∙ none_empty es (proper (as_kind t n) es (past_after n t es w)) in
-          rw (x, a);
-    }
 
 past_nothing : (es : Tree) → well_after [] es ≡ well_past [] false es
 unfolding well_past

@@ -37,12 +37,6 @@ full_none p (b ∷ bs) e = absurd (omega (arith, e))
 pub full_long : (p c : Bytes) → (length c ≡ 0 → ⊥) → length (lead p) + length c ≡ length (full p c)
 full_long p c n = sym (length-append (lead p) c) ∙ ap length (lead_join p c ∙ sym (full_join p c n))
 
-pub prefix_short : (p c : Bytes) (m : ℕ) → (length c ≡ 0 → ⊥) → length (full p c) ≤ m → length p < m
-prefix_short [] [] m n h = absurd (n refl)
-prefix_short (b ∷ bs) [] m n h = absurd (n refl)
-prefix_short [] (c ∷ cs) m n h = omega (arith, h)
-prefix_short (b ∷ bs) (c ∷ cs) m n h = omega (arith, h, length-append bs (47 ∷ c ∷ cs))
-
 -- a path that is not refused is short enough
 pub full_short : (p c : Bytes) → refused p c ≡ false → length (full p c) ≤ 1024
 unfolding refused
@@ -65,11 +59,6 @@ module _ (d p : Bytes) (n : ℕ) (e : take n d ≡ lead p) (h : n ≤ length d) 
 
   pub lead_stays : (c : Bytes) → take n (splice d n c) ≡ lead p
   lead_stays c = splice_before d n c h ∙ e
-
--- what put_prefix and put_full write
-pub no_lead : (p : Bytes) {n : ℕ} → n ≡ 0 + length p → n ≡ 0 → (0 ≡ length (lead p)) × ([] ≡ lead p)
-no_lead [] e z = (refl, refl)
-no_lead (b ∷ bs) e z = absurd (omega (arith, e, z))
 
 pub lead_put : (d p : Bytes) {d₁ d₂ : Bytes} {n r : ℕ} → length p < length d → (n ≡ 0 + length p) × (d₁ ≡ splice d 0 p) → (n ≡ 0 → ⊥) → (r ≡ n + 1) × (d₂ ≡ splice d₁ n (47 ∷ [])) →
     (r ≡ length (lead p)) × (take r d₂ ≡ lead p)

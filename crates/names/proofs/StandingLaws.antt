@@ -34,24 +34,7 @@ pub record Alike (a b : Bytes) (n i : ℕ) : Type 0 where
   pub within : i ≤ n
   pub same : take i a ≡ take i b
 
-pub alike_begin : {a b : Bytes} {n i : ℕ} → Shorter (length a) (length b) n → AlikeTo a b n i → Alike a b n i
-alike_begin s f = record { bound = s; within = f.within; same = f.same }
-
 module _ {a b : Bytes} {n i : ℕ} (at : Alike a b n i) where
-  pub alike_more : i < n → get_or a i 0 ≡ get_or b i 0 → Alike a b n (i + 1)
-  alike_more h e =
-      let s = at.bound in
-      record { bound = at.bound; within = omega arith; same = rw (add-one, take-suc a i 0 (omega arith), take-suc b i 0 (omega arith), e, at.same) }
-
-  pub alike_differ : i < n → (get_or a i 0 ≡ get_or b i 0 → ⊥) → Shares a b i
-  alike_differ h ne =
-      let s = at.bound in
-      record { left = omega arith; right = omega arith; alike = at.same; stop = λ p q. ne }
-
-  pub alike_end : n ≤ i → Shares a b i
-  alike_end h =
-      let s = at.bound in
-      record { left = omega arith; right = omega arith; alike = at.same; stop = λ p q e. s.one (omega arith) (omega arith) }
 
 -- what follows the bytes that are alike decides
 cmp_past : (i : ℕ) (k l : Bytes) → i ≤ length k → i ≤ length l → take i k ≡ take i l → cmp k l ≡ cmp (drop i k) (drop i l)

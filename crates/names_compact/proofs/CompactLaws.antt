@@ -199,9 +199,6 @@ pub walk_begin : (w : ℕ) (b : Bytes) → Walked w b 0 0
 walk_begin w b = record { is = sym (offset_zero w b); within = omega arith; small = omega arith }
 
 module _ {w : ℕ} {b : Bytes} {n a : ℕ} (k : Walked w b n a) (r : Run w b) where
-  pub walk_end : length b ≤ a → n ≡ length (unpack w b)
-  walk_end h = offset_end w b n r k.within (omega (arith, k.is))
-
   module _ (h : a < length b) where
     pub walk_in : n < length (unpack w b)
     walk_in = offset_before w b n r k.within (omega (arith, k.is))

@@ -105,6 +105,7 @@ impl<'a> Tree<'a> {
         let mut index = 0;
         let mut at = 0;
         let mut compared = 0;
+        // Stays: a search by halving over entries that differ in length has no slice to give to the library's.
         while len > 0 {
             let half = len / 2;
             let middle = self.skip(at, index, half);

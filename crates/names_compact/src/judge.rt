@@ -184,6 +184,7 @@ pub fn judge(tree: &[u8], width: usize) -> Option<Size>
     ensures { checked_as result ≡ size_of (compact_tree width tree.now) }
 {
     let mut check = Check::start(tree, width);
+    // Stays: each turn goes on from where a run of entries stopped; entries differ in length.
     while check.at < check.tree.len() {
         let next = end_of(check.tree, check.width, check.at)?;
         let key = key_held(check.tree, check.width, check.at, next);

@@ -107,6 +107,7 @@ impl<'a> Parent<'a> {
     {
         let tree = self.tree.bytes;
         let mut a = at;
+        // Stays: entries differ in length, so a place goes on from entry to entry; it is no index that is counted.
         while a < tree.len() {
             let lo = a + 2 + self.tree.width;
             let hi = lo + tree[a + 1] as usize;

@@ -223,11 +223,6 @@ with_other f (r ∷ rs) zero (suc j) h = refl
 with_other f (r ∷ rs) (suc k) zero h = refl
 with_other f (r ∷ rs) (suc k) (suc j) h = with_other f rs k j (λ e. h (ap suc e))
 
--- nothing is left exactly where the sum is the whole
-pub eqb_shift : (t l u : ℕ) → t + l ≡ u → eqb l 0 ≡ eqb t u
-eqb_shift t zero u h = sym (eq-eqb t u (omega arith))
-eqb_shift t (suc l) u h = ne_eqb (suc l) 0 (λ e. omega arith) ∙ sym (ne_eqb t u (λ e. omega arith))
-
 -- ---- no run has a byte
 
 pub total_none : (n : ℕ) → total (replicate n 0) ≡ 0

@@ -15,6 +15,7 @@ pub fn read_full<R: Read>(reader: &mut R, buf: &mut [u8]) -> io::Result<usize>
     ensures end { IfOk result (λ n. n < length buf.new → IsAtEnd (R.remaining reader.new)) }
 {
     let mut held = 0;
+    // Stays: a reader gives as many bytes as it likes, so the loop goes by what was given.
     while held < buf.len() {
         let n = reader.read(&mut buf[held..])?;
         if n == 0 {

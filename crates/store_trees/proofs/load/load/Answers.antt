@@ -29,8 +29,7 @@ fill_slot-requires c =
     let k = c.add_empty-slot.result in
     let e = c.add_empty-slot.ensures in
     let L : Laid a.width n.ed n.plens.now n.paths.now s.tlens.now s.trees.now = rw (e.trees.tlens, e.trees.trees) at e.laid in
-    let V : view_of a.width n.ed n.plens.now n.paths.now s.tlens.now s.trees.now ≡ put at (held_as a.path.now []) (view_in a.width s) = rw (e.trees.tlens, e.trees.trees) at e.view in
-    (
+    let V : view_of a.width n.ed n.plens.now n.paths.now s.tlens.now s.trees.now ≡ put at (held_as a.path.now []) (view_in a.width s) = rw (e.trees.tlens, e.trees.trees) at e.view in (
       e.laid,
       c.requires.1,
       e.slot.0,
@@ -42,7 +41,7 @@ fill_slot-requires c =
 -- the edit of the slot that was blank, over the runs of trees as they were
 edited : (c : After-fill_slot) (t : Tree) → read_tree c.args.width c.args.raw.now ≡ some t
     → Edited c.args.width c.add_empty-slot.new.self.ed c.add_empty-slot.new.self.plens.now c.add_empty-slot.new.self.paths.now c.args.s.now.tlens.now c.args.s.now.trees.now c.add_empty-slot.result t
-        c.fill_slot.new.s.ed c.fill_slot.new.s.tlens.now c.fill_slot.new.s.trees.now
+    c.fill_slot.new.s.ed c.fill_slot.new.s.tlens.now c.fill_slot.new.s.trees.now
 edited c t r = let e = c.add_empty-slot.ensures in rw (e.trees.tlens, e.trees.trees) at (c.fill_slot.ensures.edited t r).edit
 
 pub returns : goal.returns
@@ -68,6 +67,6 @@ returns c =
         loaded_write a.width s.ed n.ed s.plens.now s.paths.now s.tlens.now s.trees.now n.plens.now n.paths.now a.path.now k L e.slot.0 e.slot.1 V q.ed q.tlens.now q.trees.now g.tree x e.same.1,
       );
       lent =
-        let l = c.fill_slot.ensures.lent in
-        record { plens = l.plens ∙ e.lent.plens; paths = l.paths ∙ e.lent.paths; tlens = l.tlens ∙ e.lent.tlens; trees = l.trees ∙ e.lent.trees };
+          let l = c.fill_slot.ensures.lent in
+          record { plens = l.plens ∙ e.lent.plens; paths = l.paths ∙ e.lent.paths; tlens = l.tlens ∙ e.lent.tlens; trees = l.trees ∙ e.lent.trees };
     }
