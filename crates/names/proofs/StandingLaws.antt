@@ -34,8 +34,6 @@ pub record Alike (a b : Bytes) (n i : ℕ) : Type 0 where
   pub within : i ≤ n
   pub same : take i a ≡ take i b
 
-module _ {a b : Bytes} {n i : ℕ} (at : Alike a b n i) where
-
 -- what follows the bytes that are alike decides
 cmp_past : (i : ℕ) (k l : Bytes) → i ≤ length k → i ≤ length l → take i k ≡ take i l → cmp k l ≡ cmp (drop i k) (drop i l)
 cmp_past zero k l h g e = refl
