@@ -3,9 +3,14 @@ use Prim.Native.Nat.{ℕ, zero, suc, ◌≤◌}
 use mathlib.Core.Path.{◌≡◌, refl, sym, ap, ◌∙◌, subst}
 use mathlib.Core.Bool.{Bool, true, false, not, ◌&&◌}
 use mathlib.Core.List.{List, [], ◌∷◌}
+use mathlib.Core.Logic.{inl, inr}
 use mathlib.Core.Option.{Option, none, some}
 use native.Mathlib.Omega.{arith}
 use lib.ListN.{length, take, get_or}
+use Rattle.std.specs.Prelude.{Option as Opt, Some, None, Result, Ok, Err}
+use Rattle.std.specs.Option.{ok_or}
+use Rattle.std.specs.Result.{IsErrAnd}
+use Rattle.std.proofs.lemmas.Result.{err_from_is_err_and}
 use Rattle.model.specs.Bytes.{Bytes, is_nil}
 use Rattle.model.specs.Map.{find, is_some}
 use Rattle.model.specs.Tree.{is_tree, Entry, entry_of_lookup}
@@ -16,34 +21,49 @@ use Rattle.model.specs.Formats.{sha1}
 use Rattle.model.specs.Lookup.{Looked, found, missing, refusal, pick_looked, look_on, look, looked}
 use Rattle.store_runs.specs.Digits.{digits}
 use Rattle.store_runs.specs.Runs.{cut}
-use Rattle.store_runs.specs.declared.runs.Found.{Found}
-use Rattle.store_runs.specs.declared.runs.Found.TheVariants.{At, Nothing}
 use Rattle.store_runs.proofs.DigitLaws.{length_digits}
 use Rattle.store_runs.proofs.RunLaws.{length_cut}
 use Rattle.store_slots.specs.View.{slots_of, gather, held_at, view_of, aside_of, stacked_of, write_of, editor_of, SlotIs, Used, path_of, Laid, tree_room}
 use Rattle.store_slots.specs.declared.Record.{Record}
+use Rattle.store_slots.specs.declared.Store.{Store}
+use Rattle.store_slots.specs.declared.View.{View}
+use Rattle.store_slots.specs.Stores.{Shows}
+use Rattle.editor_terms.specs.Answers.{refusal_number}
+use Rattle.editor_terms.specs.declared.refusal.Refusal.{Refusal}
+use Rattle.editor_terms.specs.declared.refusal.Refusal.TheVariants.{CursorStale}
 use Rattle.store_check.specs.Decides.{Decides}
 use Rattle.store_check.specs.Stored.{Stored}
 use Rattle.store_check.proofs.Deciding as deciding
 use Rattle.store_check.proofs.StoredLaws.{sha1_width, sha1_room}
 use Rattle.editor.specs.Lent.{Lent, Good, viewed}
-use Rattle.editor.specs.Looks.{Looks, ReadyIs}
-use Rattle.editor.specs.declared.ready.Ready.{Ready}
-use Rattle.editor.specs.declared.ready.Ready.TheVariants.{In, Stale, Refused}
+use Rattle.editor.specs.Looks.{Looks, ReadyIs, NotReady}
+
+-- ---- what a `?` passes on
+
+pub passed_on : {A : Type 0} {r : Refusal} (x : Result A Refusal) → IsErrAnd x (λ y. y ≡ r) → x ≡ Err r
+passed_on x h = let p = err_from_is_err_and x h in p.1 ∙ ap Err p.2
+
+abbrev refusal_in : {A : Type 0} → Refusal → Result A Refusal → Refusal
+refusal_in e (Ok x) = e
+refusal_in e (Err r) = r
+
+-- the same of a value that is missing
+pub missing_as : {A B : Type 0} {r : Refusal} (x : Result A Refusal) (o : Opt B) (e : Refusal) → IsErrAnd x (λ y. y ≡ r) → o ≡ None → Err r ≡ ok_or o e → x ≡ Err e
+missing_as {B = B} x o e h n z = passed_on x h ∙ ap (λ (y : Result B Refusal). Err (refusal_in e y)) z ∙ ap (λ (y : Opt B). Err (refusal_in e (ok_or y e))) n
 
 -- ---- the slot of the prefix
 
 module _ (w : ℕ) (ds : List ℕ) (ps bs : List Bytes) (prefix path : Bytes) where
-  pub no_slot : (f : Found) → SlotIs w ds ps bs prefix f → f ≡ Nothing → ReadyIs w ds ps bs prefix path Stale
-  no_slot f s e = subst (λ (x : Found). SlotIs w ds ps bs prefix x) e s
+  pub no_slot : (f : Opt ℕ) → SlotIs w ds ps bs prefix f → f ≡ None → ReadyIs w ds ps bs prefix path (Err CursorStale)
+  no_slot f s e = inl (refl, subst (λ (x : Opt ℕ). SlotIs w ds ps bs prefix x) e s)
 
-  pub no_path : (f : Found) (k : ℕ) (b : Bool) → SlotIs w ds ps bs prefix f → f ≡ At k → b ≡ refused prefix path → b ≡ true → ReadyIs w ds ps bs prefix path Refused
+  pub no_path : (f : Opt ℕ) (k : ℕ) (b : Bool) → SlotIs w ds ps bs prefix f → f ≡ Some k → b ≡ refused prefix path → b ≡ true → NotReady w ds ps bs prefix path 6
   no_path f k b s e r t =
-      let z : SlotIs w ds ps bs prefix (At k) = subst (λ (x : Found). SlotIs w ds ps bs prefix x) e s in
-      (ap is_some z.3, sym r ∙ t)
+      let z : SlotIs w ds ps bs prefix (Some k) = subst (λ (x : Opt ℕ). SlotIs w ds ps bs prefix x) e s in
+      inr (refl, ap is_some z.3, sym r ∙ t)
 
-  pub slot_in : (f : Found) (k : ℕ) (b : Bool) → SlotIs w ds ps bs prefix f → f ≡ At k → b ≡ refused prefix path → b ≡ false → ReadyIs w ds ps bs prefix path (In k)
-  slot_in f k b s e r t = (subst (λ (x : Found). SlotIs w ds ps bs prefix x) e s, sym r ∙ t)
+  pub slot_in : (f : Opt ℕ) (k : ℕ) (b : Bool) → SlotIs w ds ps bs prefix f → f ≡ Some k → b ≡ refused prefix path → b ≡ false → ReadyIs w ds ps bs prefix path (Ok k)
+  slot_in f k b s e r t = (subst (λ (x : Opt ℕ). SlotIs w ds ps bs prefix x) e s, sym r ∙ t)
 
 -- ---- the model's lookup, test by test
 
@@ -122,14 +142,26 @@ pub record Begun (ed : Record) (plens paths tlens trees : List ℕ) (prefix path
   pub cached : is_some (find at prefix (gather (slots_of 20 (digits 64 ed.hidden) (cut plens paths) (cut tlens trees)))) ≡ true
   pub fine : refused prefix path ≡ false
 
-module _ (ed : Record) (plens paths tlens trees : List ℕ) (prefix path : Bytes) (r : Ready) (l : Laid 20 ed plens paths tlens trees) (h : ed.hidden ≡ ed.free)
-    (ready : (w : ℕ) (runs : List Bytes) → length runs ≡ 64 → ReadyIs w (digits 64 ed.hidden) (cut plens paths) runs prefix path r) where
-  here : ReadyIs 20 (digits 64 ed.hidden) (cut plens paths) (cut tlens trees) prefix path r
-  here = ready 20 (cut tlens trees) (length_cut tlens trees ∙ l.tlens_64)
+-- what is said of the slot of the prefix in the slices that v shows is said of those of s
+pub ready_in : {v : View} {s : Store} (prefix path : Bytes) (x : Result ℕ Refusal) → Shows v s
+    → ((w : ℕ) (runs : List Bytes) → length runs ≡ 64 → ReadyIs w (digits 64 v.ed.hidden) (cut v.plens.now v.paths.now) runs prefix path x)
+    → (w : ℕ) (runs : List Bytes) → length runs ≡ 64 → ReadyIs w (digits 64 s.ed.hidden) (cut s.plens.now s.paths.now) runs prefix path x
+ready_in {v} {s} prefix path x h r w runs l =
+    subst (λ (e : Record). ReadyIs w (digits 64 e.hidden) (cut s.plens.now s.paths.now) runs prefix path x) h.ed
+    (subst (λ (n : List ℕ). ReadyIs w (digits 64 v.ed.hidden) (cut n s.paths.now) runs prefix path x) h.plens
+    (subst (λ (b : List ℕ). ReadyIs w (digits 64 v.ed.hidden) (cut v.plens.now b) runs prefix path x) h.paths (r w runs l)))
 
-  pub begun : (k : ℕ) → r ≡ In k → Begun ed plens paths tlens trees prefix path k
+module _ (ed : Record) (plens paths tlens trees : List ℕ) (prefix path : Bytes) (r : Result ℕ Refusal) (l : Laid 20 ed plens paths tlens trees) (h : ed.hidden ≡ ed.free)
+    (ready : (w : ℕ) (runs : List Bytes) → length runs ≡ 64 → ReadyIs w (digits 64 ed.hidden) (cut plens paths) runs prefix path r) where
+  abbrev pub Here : Result ℕ Refusal → Type 0
+  Here = ReadyIs 20 (digits 64 ed.hidden) (cut plens paths) (cut tlens trees) prefix path
+
+  pub here : (x : Result ℕ Refusal) → r ≡ x → Here x
+  here x e = subst Here e (ready 20 (cut tlens trees) (length_cut tlens trees ∙ l.tlens_64))
+
+  pub begun : (k : ℕ) → r ≡ Ok k → Begun ed plens paths tlens trees prefix path k
   begun k e =
-      let z : ReadyIs 20 (digits 64 ed.hidden) (cut plens paths) (cut tlens trees) prefix path (In k) = subst (λ (x : Ready). ReadyIs 20 (digits 64 ed.hidden) (cut plens paths) (cut tlens trees) prefix path x) e here in
+      let z : Here (Ok k) = here (Ok k) e in
       record {
         used = record { low = omega (arith, z.0.0, length_digits 64 ed.hidden); used = ap (λ (n : ℕ). get_or (digits 64 n) k 0) (sym h) ∙ z.0.1 };
         stands = z.0.2;
@@ -138,23 +170,25 @@ module _ (ed : Record) (plens paths tlens trees : List ℕ) (prefix path : Bytes
       }
 
   module _ (order : List ℕ) (o : ed.«open» ≡ 0) where
-    pub stale : r ≡ Stale → refusal 8 ≡ looked prefix path (editor_of 20 ed plens paths tlens trees order)
-    stale e =
-        let z : ReadyIs 20 (digits 64 ed.hidden) (cut plens paths) (cut tlens trees) prefix path Stale = subst (λ (x : Ready). ReadyIs 20 (digits 64 ed.hidden) (cut plens paths) (cut tlens trees) prefix path x) e here in
-        looked_stale prefix path (editor_of 20 ed plens paths tlens trees order) (shut ed plens paths tlens trees order o) (ap is_some z.0)
+    abbrev E : Model
+    E = editor_of 20 ed plens paths tlens trees order
 
-    pub path_refused : r ≡ Refused → refusal 6 ≡ looked prefix path (editor_of 20 ed plens paths tlens trees order)
-    path_refused e =
-        let z : ReadyIs 20 (digits 64 ed.hidden) (cut plens paths) (cut tlens trees) prefix path Refused = subst (λ (x : Ready). ReadyIs 20 (digits 64 ed.hidden) (cut plens paths) (cut tlens trees) prefix path x) e here in
-        looked_refused prefix path (editor_of 20 ed plens paths tlens trees order) (shut ed plens paths tlens trees order o) z.0 z.1
+    no : is_some E.writing ≡ false
+    no = shut ed plens paths tlens trees order o
 
-    pub went_down : (k : ℕ) → r ≡ In k → (a : Looked) → a ≡ look (components path) (path_of plens paths k) (view_of 20 ed plens paths tlens trees) → a ≡ looked prefix path (editor_of 20 ed plens paths tlens trees order)
+    pub not_begun : (x : Refusal) → r ≡ Err x → refusal (refusal_number x) ≡ looked prefix path E
+    not_begun x e = go (here (Err x) e) where
+      go : NotReady 20 (digits 64 ed.hidden) (cut plens paths) (cut tlens trees) prefix path (refusal_number x) → refusal (refusal_number x) ≡ looked prefix path E
+      go (inl (n, s)) = ap refusal n ∙ looked_stale prefix path E no (ap is_some s.0)
+      go (inr (n, f, g)) = ap refusal n ∙ looked_refused prefix path E no f g
+
+    pub went_down : (k : ℕ) → r ≡ Ok k → (a : Looked) → a ≡ look (components path) (path_of plens paths k) (view_of 20 ed plens paths tlens trees) → a ≡ looked prefix path E
     went_down k e a f =
         let b : Begun ed plens paths tlens trees prefix path k = begun k e in
         f
         ∙ ap (λ (p : Bytes). look (components path) p (view_of 20 ed plens paths tlens trees)) b.stands
         ∙ ap (λ (n : ℕ). look (components path) prefix (gather (slots_of 20 (digits 64 n) (cut plens paths) (cut tlens trees)))) (sym h)
-        ∙ looked_on prefix path (editor_of 20 ed plens paths tlens trees order) (shut ed plens paths tlens trees order o) b.cached b.fine
+        ∙ looked_on prefix path E no b.cached b.fine
 
 -- ---- the fronts of a store
 

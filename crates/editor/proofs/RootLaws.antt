@@ -4,6 +4,7 @@ use mathlib.Core.Path.{◌≡◌, refl, sym, ap, ◌∙◌, subst}
 use mathlib.Core.Bool.{Bool, true, false, not}
 use mathlib.Core.List.{List, [], ◌∷◌, ◌++◌}
 use mathlib.Core.Option.{Option, none, some}
+use Rattle.std.specs.Prelude.{Option as Opt, None}
 use native.Mathlib.Omega.{arith}
 use borrow.Author.Tests.{le-leb, lt-leb, eqb-true, eqb-false}
 use lib.Dec.{eqb}
@@ -21,8 +22,7 @@ use Rattle.model.specs.Valid.{valid}
 use Rattle.model.proofs.CallsKeep.{fresh_valid}
 use Rattle.names.specs.Check.{size_of}
 use Rattle.names.specs.Answers.{checked_as}
-use Rattle.names.specs.declared.tree.Checked.{Checked}
-use Rattle.names.specs.declared.tree.Checked.TheVariants.{Broken}
+use Rattle.names.specs.declared.tree.Size.{Size}
 use Rattle.store_runs.specs.Digits.{digits}
 use Rattle.store_runs.specs.Runs.{cut}
 use Rattle.store_slots.specs.View.{slots_of, gather, held_as, held_at, view_of, aside_of, stacked_of, write_of, editor_of, Laid, Holds, SameWrite, tree_room, fresh}
@@ -107,7 +107,7 @@ stays raw s code e n =
       kept = λ h. refl;
     }
 
-pub no_root : (raw : Bytes) (s : Lent) (r : Checked) → checked_as r ≡ size_of (read_tree 20 raw) → r ≡ Broken → Roots raw s 12 s
+pub no_root : (raw : Bytes) (s : Lent) (r : Opt Size) → checked_as r ≡ size_of (read_tree 20 raw) → r ≡ None → Roots raw s 12 s
 no_root raw s r e f = stays raw s 12 (rooted_none (viewed s) ∙ sym (ap (rooted (viewed s)) (size_none (read_tree 20 raw) (sym (ap checked_as f) ∙ e)))) (λ z. omega (arith, z))
 
 module _ (raw : Bytes) (s : Lent) (n m : ℕ) (size : size_of (read_tree 20 raw) ≡ some (record { entries = n; bytes = m })) where

@@ -28,6 +28,13 @@ lent_in s order = lent s.ed s.plens.now s.paths.now s.tlens.now s.trees.now orde
 abbrev pub lent_seen : View → List ℕ → Lent
 lent_seen v order = lent v.ed v.plens.now v.paths.now v.tlens.now v.trees.now order
 
+-- the editor that it shows, of slices as long as a store
+abbrev pub editor_in : Store → List ℕ → Model
+editor_in s order = editor_of 20 s.ed s.plens.now s.paths.now s.tlens.now s.trees.now order
+
+abbrev pub editor_seen : View → List ℕ → Model
+editor_seen v order = editor_of 20 v.ed v.plens.now v.paths.now v.tlens.now v.trees.now order
+
 -- the slices are as long as a store
 pub record Long (s : Lent) : Type 0 where
   pub plens : 64 ≤ length s.plens

@@ -1,11 +1,11 @@
 // A cursor is a prefix by value: the calls below it take its bytes.
-ghost use Rattle.std.specs.Prelude.{◌≡◌, [], ◌≤◌, length, take};
+ghost use Rattle.std.specs.Prelude.{◌≡◌, [], ◌≤◌, length, take, IfOk};
 ghost use Rattle.model.specs.Formats.{sha1};
 ghost use Rattle.model.specs.Calls as model;
-ghost use Rattle.editor_terms.specs.Answers.{code_number};
-ghost use Rattle.editor_terms.specs.Objects.{table_of};
-ghost use Rattle.editor.specs.Lent.{lent, Does};
-ghost use Rattle.editor.specs.Looks.{standing, prefix_of, cursor_at};
+ghost use Rattle.store_slots.specs.Stores.{SameLent};
+ghost use Rattle.editor_terms.specs.Tables.{table_in};
+ghost use Rattle.editor.specs.Lent.{lent_in, Does};
+ghost use Rattle.editor.specs.Looks.{standing, prefix_of, cursor_at, opened_number};
 
 use editor_terms::edit::Edit;
 use editor_terms::id::Id;
@@ -51,10 +51,13 @@ pub fn sound(cursor: Cursor) -> Cursor
 }
 
 // Opens a cursor at a path, where a tree is then cached.
-pub fn cursor_at(s: &mut Store<'_>, order: &[u64], table: Table<'_>, path: &[u8]) -> Result<Cursor, Refusal>
-    ensures done { Does (model.opened sha1 (table_in table.entry) path.now)
-        (lent_in s.old order.now) (opened_number result)
-        (lent_in s.new order.now) }
+pub fn cursor_at(
+    s: &mut Store<'_>,
+    order: &[u64],
+    table: Table<'_>,
+    path: &[u8],
+) -> Result<Cursor, Refusal>
+    ensures done { Does (model.opened sha1 (table_in table.entry) path.now) (lent_in s.old order.now) (opened_number result) (lent_in s.new order.now) }
     ensures cursor { IfOk result (λ c. (prefix_of c ≡ path.now) × (c ≡ cursor_at path.now)) }
     ensures lent { SameLent s.old s.new }
 {

@@ -2,9 +2,9 @@
 ghost use Rattle.std.specs.Prelude.{◌≡◌, List, ℕ};
 ghost use Rattle.model.specs.Paths.{base};
 ghost use Rattle.model.specs.Lookup as model;
-ghost use Rattle.store_slots.specs.View.{Laid, editor_of};
+ghost use Rattle.store_slots.specs.Stores.{LaidSeen};
 ghost use Rattle.editor_walk.specs.Lookups.{looked_as};
-ghost use Rattle.editor.specs.Lent.{lent};
+ghost use Rattle.editor.specs.Lent.{lent_seen, editor_seen};
 ghost use Rattle.editor.specs.Looks.{Looks};
 
 use editor_terms::edit::Seen;
@@ -16,7 +16,7 @@ use store_slots::View;
 fn look_held(v: View<'_>, prefix: &[u8], path: &[u8]) -> Result<Option<Seen>, Refusal>
     requires { LaidSeen 20 v × (v.ed.«open» ≡ 0 → v.ed.hidden ≡ v.ed.free) }
     ensures { (order : List ℕ) → looked_as (base path.now) result
-        ≡ model.looked prefix.now path.now (editor_of 20 v.entry.ed v.entry.plens.now v.entry.paths.now v.entry.tlens.now v.entry.trees.now order) }
+        ≡ model.looked prefix.now path.now (editor_seen v.entry order) }
 {
     if v.ed.open != 0 {
         return Err(Refusal::WriteOpen);

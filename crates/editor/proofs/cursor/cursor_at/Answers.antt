@@ -1,15 +1,25 @@
 -- `editor::cursor::cursor_at` meets its contract: it is the edit that goes down at its end, and a path that is accepted is short. Assumes nothing.
+use mathlib.Core.Path.{refl, sym, ap, ◌∙◌}
 use mathlib.Core.Bool.{true}
-use Rattle.editor_terms.specs.Objects.{table_of}
+use Rattle.editor_terms.specs.Tables.{table_in}
+use Rattle.editor.specs.Looks.{cursor_at}
+use Rattle.editor.proofs.LookLaws.{passed_on}
+use Rattle.editor.proofs.CursorLaws.{prefix_within, standing_at}
 use Rattle.editor.proofs.EditLaws.{opened_short, opened_does}
 use Rattle.editor.proofs.cursor.cursor_at.Goals as goal
 
-pub placed-cursor-requires : goal.placed-cursor-requires
-placed-cursor-requires c =
+pub returns-in_err-edit-clause-done : goal.returns-in_err-edit-clause-done
+returns-in_err-edit-clause-done c =
     let a = c.args in
-    opened_short (table_of a.ids.now a.ends.now a.raws.now) _ true a.path.now _ _ _ c.edit-a.ensures
+    rw (passed_on c.from_residual.result c.from_residual.ensures.1) (opened_does (table_in a.table) a.path.now _ _ _ c.in_err-edit.ensures.done)
 
-pub returns : goal.returns
-returns c =
+pub returns-clause-done : goal.returns-clause-done
+returns-clause-done c =
     let a = c.args in
-    (opened_does (table_of a.ids.now a.ends.now a.raws.now) a.path.now _ _ _ c.edit-a.ensures, c.placed-cursor.ensures.0, c.placed-cursor.ensures.1, c.placed-cursor.ensures.2, c.placed-cursor.ensures.3)
+    opened_does (table_in a.table) a.path.now _ _ _ c.in_ok-edit.ensures.done
+
+pub returns-clause-cursor : goal.returns-clause-cursor
+returns-clause-cursor c =
+    let a = c.args in
+    let s = standing_at a.path.now (opened_short (table_in a.table) _ true a.path.now _ _ _ c.in_ok-edit.ensures.done refl) in
+    (sym (prefix_within c.at.result c.at.ensures.0) ∙ c.at.ensures.1 ∙ sym s, c.at.ensures.2 ∙ ap cursor_at (sym s))

@@ -1,57 +1,56 @@
 -- `editor::edit::edit_held` meets its contract: the refusals come in their order, then both passes. Assumes nothing.
-use mathlib.Core.Path.{refl, sym, ap, ◌∙◌}
-use lib.ListN.{length}
+use mathlib.Core.Path.{sym, ap, ◌∙◌}
 use native.Mathlib.Omega.{arith}
-use borrow.Author.Tests.{not-true, not-false}
 use Rattle.model.specs.Bytes.{Bytes}
 use Rattle.model.specs.Paths.{full, refused}
 use Rattle.editor_terms.specs.Edits.{as_edit}
-use Rattle.editor_terms.specs.Objects.{table_of}
-use Rattle.editor_terms.specs.declared.code.Code.TheVariants.{WriteOpen, BadTable, CursorStale, PathRefused}
+use Rattle.editor_terms.specs.Tables.{table_in}
+use Rattle.editor_terms.specs.declared.refusal.Refusal.TheVariants.{BadTable}
 use Rattle.names.proofs.FrontLaws.{full_short}
-use Rattle.editor.proofs.LookLaws.{begun, front_within}
-use Rattle.editor.proofs.EditLaws.{is_open, bad_table, is_stale, is_refused, is_settled}
+use Rattle.editor.proofs.LookLaws.{passed_on, missing_as, ready_in, Begun, begun}
+use Rattle.editor.proofs.EditLaws.{no_table, good_objects, same_objects, is_open, bad_table, not_ready, is_settled}
 use Rattle.editor.proofs.edit.edit_held.Goals as goal
+use Rattle.editor.proofs.edit.edit_held.Goals.{In_ok-slot}
 
-pub returns-then-ed-ne0 : goal.returns-then-ed-ne0
-returns-then-ed-ne0 c order =
+pub returns-then-s-ne0-clause-done : goal.returns-then-s-ne0-clause-done
+returns-then-s-ne0-clause-done c order =
     let a = c.args in
-    is_open (table_of a.ids.now a.ends.now a.raws.now) (as_edit a.edit) a.opening a.prefix.now a.path.now a.ed a.plens.now a.paths.now a.tlens.now a.trees.now order WriteOpen refl c.if-ed-ne0.true
+    is_open (table_in a.table) (as_edit a.edit) a.opening a.prefix.now a.path.now a.s.now order c.if-s-ne0.true
 
-pub returns-then-not-is_good : goal.returns-then-not-is_good
-returns-then-not-is_good c order =
+pub returns-in_err-table-clause-done : goal.returns-in_err-table-clause-done
+returns-in_err-table-clause-done c order =
     let a = c.args in
-    bad_table (table_of a.ids.now a.ends.now a.raws.now) (as_edit a.edit) a.opening a.prefix.now a.path.now a.ed a.plens.now a.paths.now a.tlens.now a.trees.now order BadTable refl c.if-ed-ne0.false (sym c.is_good.ensures ∙ not-true _ c.if-not-is_good.true-raw)
+    let e = c.in_err-table.ensures in
+    rw (missing_as c.from_residual.result c.checked.result BadTable c.from_residual.ensures.1 e.ok_part e.value)
+    (bad_table (table_in a.table) (as_edit a.edit) a.opening a.prefix.now a.path.now a.s.now order c.if-s-ne0.false (no_table a.table c.checked.result c.checked.ensures e.ok_part))
+
+pub returns-in_err-slot-clause-done : goal.returns-in_err-slot-clause-done
+returns-in_err-slot-clause-done c order =
+    let a = c.args in
+    rw (passed_on c.from_residual-in_err-slot.result c.from_residual-in_err-slot.ensures.1)
+    (not_ready (table_in a.table) (as_edit a.edit) a.opening a.prefix.now a.path.now a.s.now order c.slot_for.result c.requires.0 c.if-s-ne0.false (c.requires.1 c.if-s-ne0.false)
+    (good_objects a.table c.checked.result c.in_ok-table.table c.checked.ensures c.in_ok-table.ensures.ok_part) (ready_in a.prefix.now a.path.now c.slot_for.result c.view.ensures c.slot_for.ensures) _ c.in_err-slot.was)
+
+-- the walk begins in the slot of the prefix
+begins : (c : In_ok-slot) → Begun c.args.s.now.ed c.args.s.now.plens.now c.args.s.now.paths.now c.args.s.now.tlens.now c.args.s.now.trees.now c.args.prefix.now c.args.path.now c.in_ok-slot.slot
+begins c =
+    let a = c.args in
+    let s = a.s.now in
+    begun s.ed s.plens.now s.paths.now s.tlens.now s.trees.now a.prefix.now a.path.now c.slot_for.result c.requires.0 (c.requires.1 c.if-s-ne0.false) (ready_in a.prefix.now a.path.now c.slot_for.result c.view.ensures c.slot_for.ensures) c.in_ok-slot.slot c.in_ok-slot.was
 
 pub put_full-n-requires : goal.put_full-n-requires
-put_full-n-requires c =
-    let a = c.args in
-    let b = begun a.ed a.plens.now a.paths.now a.tlens.now a.trees.now a.prefix.now a.path.now c.slot_for.result c.requires.0 (c.requires.1 c.if-ed-ne0.false) c.slot_for.ensures c.in-In.slot c.in-In.is in
-    omega (arith, full_short a.prefix.now a.path.now b.fine)
-
-pub slice_bounds-buf-end : goal.slice_bounds-buf-end
-slice_bounds-buf-end c = front_within _ _ (ap length c.put_full-n.ensures.1 ∙ sym c.put_full-n.ensures.0)
-
-pub slice_bounds-settle-end : goal.slice_bounds-settle-end
-slice_bounds-settle-end c = c.put_full-n.ensures.0 ∙ sym (ap length c.put_full-n.ensures.1)
+put_full-n-requires c = omega (arith, full_short c.args.prefix.now c.args.path.now (begins (goal.at.put_full-n-requires c).In_ok-slot).fine)
 
 pub settle-requires : goal.settle-requires
 settle-requires c =
     let a = c.args in
-    let b = begun a.ed a.plens.now a.paths.now a.tlens.now a.trees.now a.prefix.now a.path.now c.slot_for.result c.requires.0 (c.requires.1 c.if-ed-ne0.false) c.slot_for.ensures c.in-In.slot c.in-In.is in
-    (c.requires.0, c.requires.1 c.if-ed-ne0.false, b.used, sym c.is_good.ensures ∙ not-false _ c.if-not-is_good.false-raw, c.put_full-n.ensures.1 ∙ ap (λ (p : Bytes). full p a.path.now) (sym b.stands), ap (λ (p : Bytes). refused p a.path.now) b.stands ∙ b.fine, c.requires.2 c.if-ed-ne0.false)
+    let b = begins (goal.at.settle-requires c).In_ok-slot in
+    (c.requires.0, c.requires.1 c.if-s-ne0.false, b.used, c.put_full-n.ensures.1 ∙ ap (λ (p : Bytes). full p a.path.now) (sym b.stands), ap (λ (p : Bytes). refused p a.path.now) b.stands ∙ b.fine, c.requires.2 c.if-s-ne0.false)
 
-pub returns-in-Stale : goal.returns-in-Stale
-returns-in-Stale c order =
+pub returns-clause-done : goal.returns-clause-done
+returns-clause-done c order =
     let a = c.args in
-    is_stale (table_of a.ids.now a.ends.now a.raws.now) (as_edit a.edit) a.opening a.prefix.now a.path.now a.ed a.plens.now a.paths.now a.tlens.now a.trees.now order c.slot_for.result c.requires.0 c.if-ed-ne0.false (c.requires.1 c.if-ed-ne0.false) (sym c.is_good.ensures ∙ not-false _ c.if-not-is_good.false-raw) c.slot_for.ensures CursorStale refl c.in-Stale.is
-
-pub returns-in-Refused : goal.returns-in-Refused
-returns-in-Refused c order =
-    let a = c.args in
-    is_refused (table_of a.ids.now a.ends.now a.raws.now) (as_edit a.edit) a.opening a.prefix.now a.path.now a.ed a.plens.now a.paths.now a.tlens.now a.trees.now order c.slot_for.result c.requires.0 c.if-ed-ne0.false (c.requires.1 c.if-ed-ne0.false) (sym c.is_good.ensures ∙ not-false _ c.if-not-is_good.false-raw) c.slot_for.ensures PathRefused refl c.in-Refused.is
-
-pub returns-in-In : goal.returns-in-In
-returns-in-In c order =
-    let a = c.args in
-    is_settled (table_of a.ids.now a.ends.now a.raws.now) (as_edit a.edit) a.opening a.prefix.now a.path.now a.ed a.plens.now a.paths.now a.tlens.now a.trees.now order c.slot_for.result c.requires.0 c.if-ed-ne0.false (c.requires.1 c.if-ed-ne0.false) (sym c.is_good.ensures ∙ not-false _ c.if-not-is_good.false-raw) c.slot_for.ensures c.in-In.slot c.in-In.is (c.requires.2 c.if-ed-ne0.false) c.settle.result _ _ _ _ c.settle.ensures
+    let t = c.in_ok-table in
+    is_settled (table_in a.table) (as_edit a.edit) a.opening a.prefix.now a.path.now a.s.now order c.slot_for.result c.requires.0 c.if-s-ne0.false (c.requires.1 c.if-s-ne0.false)
+    (good_objects a.table c.checked.result t.table c.checked.ensures t.ensures.ok_part) (ready_in a.prefix.now a.path.now c.slot_for.result c.view.ensures c.slot_for.ensures) c.in_ok-slot.slot c.in_ok-slot.was (c.requires.2 c.if-s-ne0.false) c.settle.result c.settle.new.s
+    (rw (← same_objects a.table c.checked.result t.table c.checked.ensures t.ensures.ok_part) c.settle.ensures.done)

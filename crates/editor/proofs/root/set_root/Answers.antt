@@ -1,32 +1,31 @@
 -- `editor::root::set_root` meets its contract: a store that holds no editor and an open write are refused, then it is a new root. Assumes nothing.
 use lib.ListN.{take}
-use borrow.Author.Tests.{not-true, not-false}
-use Rattle.model.specs.Calls.{set_root}
-use Rattle.model.specs.Formats.{sha1}
-use Rattle.editor.specs.Lent.{lent}
+use Rattle.std.proofs.Common.{rules}
+use Rattle.editor.specs.Lent.{Good, lent_in}
 use Rattle.editor.proofs.LookLaws.{opened, shut, trees_long}
-use Rattle.editor.proofs.RootLaws.{refuses_damaged, refuses_open, sets_root}
+use Rattle.editor.proofs.RootLaws.{refuses_open, sets_root}
 use Rattle.editor.proofs.root.set_root.Goals as goal
+use Rattle.editor.proofs.root.set_root.Goals.{Else-not-holds}
 
-pub returns-then-not-holds : goal.returns-then-not-holds
-returns-then-not-holds c =
-    let a = c.args in
-    refuses_damaged (set_root sha1 a.raw.now) (lent a.ed a.plens.now a.paths.now a.tlens.now a.trees.now a.order.now) c.holds.result c.holds.ensures (not-true _ c.if-not-holds.true-raw)
+-- the store holds an editor, as what it shows does
+good : (c : Else-not-holds) → Good (lent_in c.args.s.now c.args.order.now)
+good c = let v = c.view.ensures in rw (v.ed, v.plens, v.paths, v.tlens, v.trees) at (c.holds.ensures.yes (search rules))
 
-pub returns-then-ed-ne0 : goal.returns-then-ed-ne0
-returns-then-ed-ne0 c =
+pub returns-then-s-ne0-clause-done : goal.returns-then-s-ne0-clause-done
+returns-then-s-ne0-clause-done c =
     let a = c.args in
-    let g = c.holds.ensures.yes (not-false _ c.if-not-holds.false-raw) in
-    refuses_open a.raw.now (lent a.ed a.plens.now a.paths.now a.tlens.now a.trees.now a.order.now) g (opened a.ed (take 64 a.plens.now) (take 8192 a.paths.now) (take 64 a.tlens.now) (take 38912 a.trees.now) (take 64 a.order.now) c.if-ed-ne0.true)
+    let s = a.s.now in
+    refuses_open a.raw.now (lent_in s a.order.now) (good (goal.at.returns-then-s-ne0-clause-done c).Else-not-holds) (opened s.ed (take 64 s.plens.now) (take 8192 s.paths.now) (take 64 s.tlens.now) (take 38912 s.trees.now) (take 64 a.order.now) c.if-s-ne0.true)
 
 pub rooted-requires : goal.rooted-requires
 rooted-requires c =
-    let a = c.args in
-    let g = c.holds.ensures.yes (not-false _ c.if-not-holds.false-raw) in
-    (g.plens_room, g.paths_room, g.tlens_room, trees_long a.ed a.plens.now a.paths.now a.tlens.now a.trees.now a.order.now g)
+    let s = c.args.s.now in
+    let g = good (goal.at.rooted-requires c).Else-not-holds in
+    (g.plens_room, g.paths_room, g.tlens_room, trees_long s.ed s.plens.now s.paths.now s.tlens.now s.trees.now c.args.order.now g)
 
-pub returns : goal.returns
-returns c =
+pub returns-clause-done : goal.returns-clause-done
+returns-clause-done c =
     let a = c.args in
-    let g = c.holds.ensures.yes (not-false _ c.if-not-holds.false-raw) in
-    sets_root a.raw.now (lent a.ed a.plens.now a.paths.now a.tlens.now a.trees.now a.order.now) _ _ (c.rooted.ensures a.order.now g.order_room) g (shut a.ed (take 64 a.plens.now) (take 8192 a.paths.now) (take 64 a.tlens.now) (take 38912 a.trees.now) (take 64 a.order.now) c.if-ed-ne0.false)
+    let s = a.s.now in
+    let g = good (goal.at.returns-clause-done c).Else-not-holds in
+    sets_root a.raw.now (lent_in s a.order.now) _ _ (c.rooted.ensures.done a.order.now g.order_room) g (shut s.ed (take 64 s.plens.now) (take 8192 s.paths.now) (take 64 s.tlens.now) (take 38912 s.trees.now) (take 64 a.order.now) c.if-s-ne0.false)
