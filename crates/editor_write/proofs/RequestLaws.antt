@@ -1,7 +1,7 @@
 -- Laws of reading the request: the length of the requested tree's raw form decides between 11 and the tree itself, whose path is short enough for a cursor. Assumes nothing.
 use Prim.Native.Nat.{ℕ, zero, suc, ◌+◌, ◌≤◌, ◌<◌}
 use mathlib.Core.Path.{◌≡◌, refl, sym, ap, ap₂, ◌∙◌, subst}
-use mathlib.Core.Bool.{Bool, true, false, ◌&&◌, ◌||◌}
+use mathlib.Core.Bool.{Bool, true, ◌&&◌, ◌||◌}
 use mathlib.Core.List.{List, [], ◌∷◌}
 use mathlib.Core.Option.{Option, none, some}
 use native.Mathlib.Omega.{arith}
@@ -36,10 +36,8 @@ use Rattle.store_taken.proofs.Steps.{asked_in_hand}
 use Rattle.store_trees.specs.Trees.{Readable}
 use Rattle.store_trees.proofs.Reading.{readable}
 use Rattle.editor.proofs.LookLaws.{front_laid}
-use Rattle.store_check.specs.Decides.{Decides}
-use Rattle.store_check.proofs.Deciding as deciding
 use Rattle.editor_terms.specs.declared.refusal.Refusal.{Refusal}
-use Rattle.editor_terms.specs.declared.refusal.Refusal.TheVariants.{NoWriteOpen, OutputShort, StoreDamaged}
+use Rattle.editor_terms.specs.declared.refusal.Refusal.TheVariants.{NoWriteOpen, OutputShort}
 use Rattle.editor.specs.Lent.{Lent, lent_in, lent_seen, Good, viewed}
 use Rattle.editor.specs.Looks.{standing, cursor_at}
 use Rattle.editor.specs.declared.cursor.Cursor.{Cursor}
@@ -127,9 +125,6 @@ small (short m) = omega arith
 small unopened = omega arith
 
 module _ (s : Lent) (out : Bytes) where
-  pub damaged : (b : Bool) → Decides (Good s) b → b ≡ false → RequestsAs s (Err StoreDamaged) out out
-  damaged b d e = record { refused = λ z. (deciding.refused d e, refl, refl, refl); done = λ z. absurd (z refl) }
-
   pub none_open : Good s → s.ed.«open» ≡ 0 → RequestsAs s (Err NoWriteOpen) out out
   none_open g e =
       let u : show (length out) (viewed s) ≡ unopened = show_none (length out) s.ed.«open» (viewed s).cached _ _ _ e in

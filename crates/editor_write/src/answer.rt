@@ -57,6 +57,7 @@ fn answer_held(s: &mut Store<'_>, order: &mut [u64], id: Id)
 }
 
 // The same over its parts.
+// Stays: parts as parameters; of fronts put into a `Store` at once, and of parts taken out of one by a pattern, the check made no proof (both were tried).
 fn answer_exact(
     ed: &mut Record,
     plens: &mut [u64],
@@ -67,7 +68,8 @@ fn answer_exact(
     id: Id,
 )
     requires { HoldsExactly (lent ed.old plens.old paths.old tlens.old trees.old order.old) × (ed.old.«open» ≡ 0 → ⊥) }
-    ensures { Made (answered sha1 (id_bytes id)) (lent ed.old plens.old paths.old tlens.old trees.old order.old) (lent ed.new plens.new paths.new tlens.new trees.new order.new) }
+    ensures { Made (answered sha1 (id_bytes id))
+        (lent ed.old plens.old paths.old tlens.old trees.old order.old) (lent ed.new plens.new paths.new tlens.new trees.new order.new) }
 {
     let mut exact = Store {
         ed: *ed,
@@ -91,7 +93,8 @@ fn answer_fronts(
     id: Id,
 )
     requires { Good (lent ed.old plens.old paths.old tlens.old trees.old order.old) × (ed.old.«open» ≡ 0 → ⊥) }
-    ensures { Does (answered sha1 (id_bytes id)) (lent ed.old plens.old paths.old tlens.old trees.old order.old) 0 (lent ed.new plens.new paths.new tlens.new trees.new order.new) }
+    ensures { Does (answered sha1 (id_bytes id))
+        (lent ed.old plens.old paths.old tlens.old trees.old order.old) 0 (lent ed.new plens.new paths.new tlens.new trees.new order.new) }
 {
     answer_exact(
         ed,

@@ -45,7 +45,8 @@ impl<'a> Start<'a> {
 
 // Begins a write at the cached tree in a slot, over slices that hold an editor with none open.
 fn begin_slot(s: &mut Store<'_>, order: &mut [u64], slot: usize, start: Start<'_>)
-    requires { HoldsExactly (lent_in s.old order.old) × (s.old.ed.«open» ≡ 0) × Cached s.old.ed slot × (start_path (start_as start) ≡ path_in_slot s.old slot) }
+    requires { HoldsExactly (lent_in s.old order.old) × (s.old.ed.«open» ≡ 0) × Cached s.old.ed slot
+        × (start_path (start_as start) ≡ path_in_slot s.old slot) }
     ensures done { Made (begun sha1 (start_as start.entry)) (lent_in s.old order.old) (lent_in s.new order.new) }
     ensures lent { SameLent s.old s.new }
 {
@@ -67,6 +68,7 @@ fn begin_held(s: &mut Store<'_>, order: &mut [u64], start: Start<'_>) -> Result<
 }
 
 // The same over its parts.
+// Stays: parts as parameters; of fronts put into a `Store` at once, and of parts taken out of one by a pattern, the check made no proof (both were tried).
 fn begin_exact(
     ed: &mut Record,
     plens: &mut [u64],
@@ -77,7 +79,8 @@ fn begin_exact(
     start: Start<'_>,
 ) -> Result<(), Refusal>
     requires { HoldsExactly (lent ed.old plens.old paths.old tlens.old trees.old order.old) × (ed.old.«open» ≡ 0) }
-    ensures { Answers (begun sha1 (start_as start.entry)) (lent ed.old plens.old paths.old tlens.old trees.old order.old) (code_number result) (lent ed.new plens.new paths.new tlens.new trees.new order.new) }
+    ensures { Answers (begun sha1 (start_as start.entry))
+        (lent ed.old plens.old paths.old tlens.old trees.old order.old) (code_number result) (lent ed.new plens.new paths.new tlens.new trees.new order.new) }
 {
     let mut exact = Store {
         ed: *ed,
@@ -102,7 +105,8 @@ fn begin_fronts(
     start: Start<'_>,
 ) -> Result<(), Refusal>
     requires { Good (lent ed.old plens.old paths.old tlens.old trees.old order.old) × (ed.old.«open» ≡ 0) }
-    ensures { Does (begun sha1 (start_as start.entry)) (lent ed.old plens.old paths.old tlens.old trees.old order.old) (code_number result) (lent ed.new plens.new paths.new tlens.new trees.new order.new) }
+    ensures { Does (begun sha1 (start_as start.entry))
+        (lent ed.old plens.old paths.old tlens.old trees.old order.old) (code_number result) (lent ed.new plens.new paths.new tlens.new trees.new order.new) }
 {
     begin_exact(
         ed,

@@ -24,6 +24,7 @@ fn fail_held(s: &mut Store<'_>, order: &[u64])
 }
 
 // The same over its parts.
+// Stays: parts as parameters; of fronts put into a `Store` at once, and of parts taken out of one by a pattern, the check made no proof (both were tried).
 fn fail_exact(
     ed: &mut Record,
     plens: &mut [u64],

@@ -26,8 +26,10 @@ pub struct Asked {
 // The request over slices that hold an editor with an open write.
 fn request_held(v: View<'_>, out: &mut [u8]) -> Result<Asked, Refusal>
     requires { Readable 20 v.ed v.tlens.now v.trees.now v.ed.asked × KeysSound v × (v.ed.asked < length v.plens.now) }
-    ensures { (E : Model) (h : Held) → requested E ≡ some h → h ≡ held_at 20 v.entry.plens.now v.entry.paths.now v.entry.tlens.now v.entry.trees.now v.entry.ed.asked → length h.path ≤ 1024
-        → Shows (λ m. show m E) (answer_of result) (len_of result) out.old out.new × (place_of result ≡ cursor_at (place_in (show (length out.old) E) (requested E))) }
+    ensures { (E : Model) (h : Held) → requested E ≡ some h
+        → h ≡ held_at 20 v.entry.plens.now v.entry.paths.now v.entry.tlens.now v.entry.trees.now v.entry.ed.asked → length h.path ≤ 1024
+        → Shows (λ m. show m E) (answer_of result) (len_of result) out.old out.new
+        × (place_of result ≡ cursor_at (place_in (show (length out.old) E) (requested E))) }
 {
     let slot = v.ed.asked;
     let n = store_trees::raw::raw_len_of(v, WIDTH, slot);

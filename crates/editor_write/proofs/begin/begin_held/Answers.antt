@@ -3,7 +3,6 @@ use Rattle.editor.specs.Lent.{lent_in}
 use Rattle.editor.proofs.LookLaws.{missing_as}
 use Rattle.editor_terms.specs.declared.refusal.Refusal.TheVariants.{CursorStale}
 use Rattle.editor_write.specs.Starts.{start_as}
-use Rattle.editor_write.proofs.BackLaws.{made_answers}
 use Rattle.editor_write.proofs.BeginLaws.{found_in, begin_stale, slot_cached, slot_starts}
 use Rattle.editor_write.proofs.begin.begin_held.Goals as goal
 
@@ -23,6 +22,3 @@ begin_slot-requires c =
       slot_cached s c.requires.0 c.requires.1 (start_as c.args.start) c.find.result f c.in_ok-slot.slot e,
       slot_starts s c.requires.0 c.requires.1 (start_as c.args.start) c.find.result f c.in_ok-slot.slot e,
     )
-
-pub returns-clause-done : goal.returns-clause-done
-returns-clause-done c = made_answers _ _ _ c.begin_slot.ensures.done
