@@ -1,6 +1,7 @@
 -- A call over the fronts of lent slices says the same of the slices themselves: what lies behind the fronts stays where it is. Assumes nothing.
 use Prim.Native.Nat.{ℕ}
 use mathlib.Core.Path.{◌≡◌, refl, ap, sym, ◌∙◌, subst}
+use mathlib.Core.Bool.{Bool, true}
 use mathlib.Core.List.{List, ◌++◌}
 use native.Mathlib.Omega.{arith}
 use lib.ListN.{length, take, drop, length-append, take-append-drop}
@@ -9,11 +10,27 @@ use Rattle.model.specs.Calls.{Answer}
 use Rattle.model.specs.Editor.{Editor as Model}
 use Rattle.model.specs.Formats.{sha1}
 use Rattle.store_slots.specs.View.{editor_of, Holds}
+use Rattle.store_slots.specs.Stores.{Shows}
 use Rattle.store_slots.specs.declared.Record.{Record}
-use Rattle.editor.specs.Lent.{Lent, lent, Good, viewed, Behind, Does}
+use Rattle.store_slots.specs.declared.Store.{Store}
+use Rattle.store_slots.specs.declared.View.{View}
+use Rattle.store_check.specs.Decides.{Decides}
+use Rattle.editor.specs.Lent.{Lent, lent, lent_in, lent_seen, Good, viewed, Behind, Does}
 use Rattle.editor.proofs.LookLaws.{trees_long}
 use Rattle.editor.proofs.RootLaws.{back_view, back_good, back_behind}
 use Rattle.editor_write.specs.Steps.{fronts, Made, Answers}
+
+-- a view shows the store that it is of
+pub seen_is : {v : View} {s : Store} → Shows v s → (order : List ℕ) → lent_seen v order ≡ lent_in s order
+seen_is {v} {s} k order =
+    ap (λ (x : Record). lent x v.plens.now v.paths.now v.tlens.now v.trees.now order) k.ed
+    ∙ ap (λ (x : List ℕ). lent s.ed x v.paths.now v.tlens.now v.trees.now order) k.plens
+    ∙ ap (λ (x : List ℕ). lent s.ed s.plens.now x v.tlens.now v.trees.now order) k.paths
+    ∙ ap (λ (x : List ℕ). lent s.ed s.plens.now s.paths.now x v.trees.now order) k.tlens
+    ∙ ap (λ (x : List ℕ). lent s.ed s.plens.now s.paths.now s.tlens.now x order) k.trees
+
+pub decided : {v : View} {s : Store} → Shows v s → (order : List ℕ) (b : Bool) → Decides (Good (lent_seen v order)) b → Decides (Good (lent_in s order)) b
+decided k order b = subst (λ (x : Lent). Decides (Good x) b) (seen_is k order)
 
 -- a refusal leaves each byte
 pub refuses : (f : Model → Answer) (s : Lent) (n : ℕ) → Good s → (n ≡ 13 → ⊥) → record { code = n; editor = viewed s } ≡ f (viewed s) → Does f s n s
@@ -88,3 +105,10 @@ module _ (s : Lent) (g : Good s) (q : Record) (p₁ p₂ p₃ p₄ p₅ : List �
   -- what was made over the fronts
   pub made_whole : (f : Model → Answer) → Made f (fronts s) (lent q p₁ p₂ p₃ p₄ p₅) → Does f s 0 whole
   made_whole f m = does_whole f 0 (made_answers f (fronts s) (lent q p₁ p₂ p₃ p₄ p₅) m)
+
+-- a store that is not refused holds an editor, and does so after the call
+pub accepts : {v : View} {s : Store} → Shows v s → (order : List ℕ) (b : Bool) → Decides (Good (lent_seen v order)) b → b ≡ true → Good (lent_in s order)
+accepts k order b d e = (decided k order b d).yes e
+
+pub stays_good : {f : Model → Answer} {s q : Lent} {code : ℕ} → Does f s code q → Good s → Good q
+stays_good d g = (d.done (λ z. (d.refused z).0 g)).2

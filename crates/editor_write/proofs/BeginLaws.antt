@@ -5,7 +5,9 @@ use mathlib.Core.Bool.{Bool, true, false}
 use mathlib.Core.List.{List, [], ◌∷◌, ◌++◌, map, reverse}
 use mathlib.Core.Option.{Option, none, some}
 use native.Mathlib.Omega.{arith}
+use denote.Ref.{Bor}
 use lib.ListN.{length, take, drop, get_or, drop_of_length-le}
+use Rattle.std.specs.Prelude.{Option as Found, Some, None}
 use Rattle.model.specs.Bytes.{Bytes, same}
 use Rattle.model.specs.Map.{find, del, is_some}
 use Rattle.model.specs.Tree.{null}
@@ -21,13 +23,14 @@ use Rattle.model.proofs.Theorems.{begin_valid}
 use Rattle.model.proofs.WriteKeeps.{Fair, FairAsk, asking_fair, valid_shut, begin_fair}
 use Rattle.store_runs.specs.Digits.{digits}
 use Rattle.store_runs.specs.Runs.{cut}
-use Rattle.store_runs.specs.declared.runs.Found.{Found}
-use Rattle.store_runs.specs.declared.runs.Found.TheVariants.{At, Nothing}
 use Rattle.store_runs.proofs.DigitLaws.{length_digits}
 use Rattle.store_runs.proofs.RunLaws.{length_cut}
 use Rattle.store_slots.specs.View.{slots_of, gather, held_at, path_of, cached_of, aside_of, stacked_of, start_of, marked, SlotIs, Laid, Closed, Ordered}
 use Rattle.store_slots.specs.View.{write_of as writingAt}
+use Rattle.store_slots.specs.Stores.{Shows}
 use Rattle.store_slots.specs.declared.Record.{Record}
+use Rattle.store_slots.specs.declared.Store.{Store}
+use Rattle.store_slots.specs.declared.View.{View}
 use Rattle.store_slots.proofs.Relaid.{find_slot}
 use Rattle.store_taken.specs.Taken.{going_of, stacked_on, taken_off, writing_of, Marks, Between, Cached}
 use Rattle.store_taken.proofs.Steps.{laid_same}
@@ -37,8 +40,11 @@ use Rattle.store_check.proofs.ChainLaws.{taken_start}
 use Rattle.store_check.proofs.StoredLaws.{sha1_width}
 use Rattle.editor.specs.Lent.{Lent, Good, viewed, Does}
 use Rattle.editor.proofs.LookLaws.{opened as is_open, shut as is-shut}
-use Rattle.editor_write.specs.Steps.{exactly, HoldsExactly, Made, Answers, Starts}
-use Rattle.editor_write.proofs.BackLaws.{refuses, made_answers}
+use Rattle.editor_write.specs.Starts.{start_as, start_number}
+use Rattle.editor_write.specs.declared.begin.Start.{Start as Where}
+use Rattle.editor_write.specs.declared.begin.Start.TheVariants.{Root, Cursor}
+use Rattle.editor_write.specs.Steps.{exactly, HoldsExactly, Made, Answers}
+use Rattle.editor_write.proofs.BackLaws.{refuses, seen_is}
 use Rattle.editor_write.proofs.FailLaws.{laid_20, valid_20, made}
 
 -- ---- the request that a fair write comes to
@@ -53,6 +59,37 @@ fair_start sp a f =
 pub asks_as : (sp : Bytes) (n : ℕ) (h : Held) (g : Going) (a : Asking) → asks_on h g ≡ a → FairAsk sha1 sp a → writing_of n h g ≡ write_of (start_of n sp) a
 asks_as sp n h g a e f =
     ap (λ (p : Bytes). write_of (start_of n p) (asks_on h g)) (fair_start sp (asks_on h g) (subst (FairAsk sha1 sp) (sym e) f)) ∙ ap (write_of (start_of n sp)) e
+
+-- ---- where it begins
+
+pub start_is : (x : Where) (p : Bytes) → start_path (start_as x) ≡ p → start_of (start_number x) p ≡ start_as x
+unfolding start_path
+start_is Root p e = refl
+start_is (Cursor prefix) p e = ap from_cursor (sym e)
+
+pub root_path : {x : Where} → x ≡ Root → [] ≡ start_path (start_as x)
+unfolding start_path
+root_path e = sym (ap (λ (x : Where). start_path (start_as x)) e)
+
+pub cursor_path : {x : Where} {p : Bor Bytes} → x ≡ Cursor p → p.now ≡ start_path (start_as x)
+unfolding start_path
+cursor_path e = sym (ap (λ (x : Where). start_path (start_as x)) e)
+
+-- the search of a view is one of the store
+pub found_in : {v : View} {s : Store} {p q : Bytes} (f : Found ℕ) → Shows v s → p ≡ q →
+    ((w : ℕ) (runs : List Bytes) → length runs ≡ 64 → SlotIs w (digits 64 v.ed.hidden) (cut v.plens.now v.paths.now) runs p f) →
+    (w : ℕ) (runs : List Bytes) → length runs ≡ 64 → SlotIs w (digits 64 s.ed.hidden) (cut s.plens.now s.paths.now) runs q f
+found_in {s = s} {p} f h e r w runs l =
+    subst (λ (y : Bytes). SlotIs w (digits 64 s.ed.hidden) (cut s.plens.now s.paths.now) runs y f) e
+    (subst (λ (x : Lent). SlotIs w (digits 64 x.ed.hidden) (cut x.plens x.paths) runs p f) (seen_is h []) (r w runs l))
+
+number_low : (x : Where) → 1 ≤ start_number x
+number_low Root = omega arith
+number_low (Cursor prefix) = omega arith
+
+number_high : (x : Where) → start_number x ≤ 2
+number_high Root = omega arith
+number_high (Cursor prefix) = omega arith
 
 -- ---- an open write with no tree taken
 
@@ -69,13 +106,13 @@ module _ (r : Record) (order : List ℕ) (o : Ordered r order) (z : r.«open» �
   none_taken : take r.aside order ++ drop (64 - r.stacked) order ≡ []
   none_taken = ap₂ (λ (x : ℕ) (y : List ℕ). take x order ++ y) k.aside none_stacked
 
-  pub opened_between : (n : ℕ) → 1 ≤ n → n ≤ 2 → Between (opened r n) order []
+  pub opened_between : (n : ℕ) (x : Where) → n ≡ start_number x → Between (opened r n) order []
   unfolding marked
-  opened_between n l h =
+  opened_between n x e =
       record {
         order_64 = o.order_64;
-        under_way = λ e. omega (arith, e, l);
-        from = h;
+        under_way = λ z. omega (arith, z, e, number_low x);
+        from = omega (arith, e, number_high x);
         room = omega (arith, k.aside, k.stacked);
         marks = subst (Marks (opened r n)) (sym none_taken) (record { used = tt; apart = refl; hidden = ap (digits 64) k.hidden });
       }
@@ -99,16 +136,6 @@ begun_open : (S : Start) (E : Model) → is_some E.writing ≡ true → record {
 unfolding begun refuse_if
 begun_open S E w = sym (ap (λ (b : Bool). refuse_if b 9 E (begun_at sha1 S E (find at (start_path S) E.cached))) w)
 
--- ---- where it may begin
-
-pub starts_root : Starts 1 []
-unfolding start_path
-starts_root = record { low = omega arith; high = omega arith; path = refl }
-
-pub starts_cursor : (p : Bytes) → Starts 2 p
-unfolding start_path
-starts_cursor p = record { low = omega arith; high = omega arith; path = refl }
-
 -- ---- refusals
 
 pub begin_refused : (S : Start) (s : Lent) → Good s → (s.ed.«open» ≡ 0 → ⊥) → Does (begun sha1 S) s 9 s
@@ -116,33 +143,30 @@ begin_refused S s g n =
     refuses (begun sha1 S) s 9 g (λ z. omega (arith, z))
     (begun_open S (viewed s) (is_open s.ed (take 64 s.plens) (take 8192 s.paths) (take 64 s.tlens) (take 38912 s.trees) (take 64 s.order) n))
 
-module _ (s : Lent) (h : HoldsExactly s) (z : s.ed.«open» ≡ 0) (prefix : Bytes) (from : ℕ) (t : Starts from prefix) (f : Found)
-    (ready : (w : ℕ) (runs : List Bytes) → length runs ≡ 64 → SlotIs w (digits 64 s.ed.hidden) (cut s.plens s.paths) runs prefix f) where
-  here : SlotIs 20 (digits 64 s.ed.hidden) (cut s.plens s.paths) (cut s.tlens s.trees) prefix f
+module _ (s : Lent) (h : HoldsExactly s) (z : s.ed.«open» ≡ 0) (S : Start) (f : Found ℕ)
+    (ready : (w : ℕ) (runs : List Bytes) → length runs ≡ 64 → SlotIs w (digits 64 s.ed.hidden) (cut s.plens s.paths) runs (start_path S) f) where
+  here : SlotIs 20 (digits 64 s.ed.hidden) (cut s.plens s.paths) (cut s.tlens s.trees) (start_path S) f
   here = ready 20 (cut s.tlens s.trees) (length_cut s.tlens s.trees ∙ h.laid.tlens_64)
 
-  pub begin_stale : f ≡ Nothing → Answers (begun sha1 (start_of from prefix)) s 8 s
+  pub begin_stale : f ≡ None → Answers (begun sha1 S) s 8 s
   begin_stale e =
-      let y : SlotIs 20 (digits 64 s.ed.hidden) (cut s.plens s.paths) (cut s.tlens s.trees) prefix Nothing = subst (λ (x : Found). SlotIs 20 (digits 64 s.ed.hidden) (cut s.plens s.paths) (cut s.tlens s.trees) prefix x) e here in
+      let y : SlotIs 20 (digits 64 s.ed.hidden) (cut s.plens s.paths) (cut s.tlens s.trees) (start_path S) None = subst (λ (x : Found ℕ). SlotIs 20 (digits 64 s.ed.hidden) (cut s.plens s.paths) (cut s.tlens s.trees) (start_path S) x) e here in
       record {
         holds = h;
-        is = begun_stale (start_of from prefix) (exactly s) (is-shut s.ed s.plens s.paths s.tlens s.trees s.order z) (ap (λ (p : Bytes). find at p (exactly s).cached) t.path ∙ y.0);
+        is = begun_stale S (exactly s) (is-shut s.ed s.plens s.paths s.tlens s.trees s.order z) y.0;
         kept = λ n. refl;
         usual = λ n. omega (arith, n);
       }
 
-  module _ (k : ℕ) (e : f ≡ At k) where
-    found_at : SlotIs 20 (digits 64 s.ed.hidden) (cut s.plens s.paths) (cut s.tlens s.trees) prefix (At k)
-    found_at = subst (λ (x : Found). SlotIs 20 (digits 64 s.ed.hidden) (cut s.plens s.paths) (cut s.tlens s.trees) prefix x) e here
+  module _ (k : ℕ) (e : f ≡ Some k) where
+    found_at : SlotIs 20 (digits 64 s.ed.hidden) (cut s.plens s.paths) (cut s.tlens s.trees) (start_path S) (Some k)
+    found_at = subst (λ (x : Found ℕ). SlotIs 20 (digits 64 s.ed.hidden) (cut s.plens s.paths) (cut s.tlens s.trees) (start_path S) x) e here
 
     pub slot_cached : Cached s.ed k
     slot_cached = record { low = omega (arith, found_at.0, length_digits 64 s.ed.hidden); shown = found_at.1 }
 
-    pub slot_starts : Starts from (path_of s.plens s.paths k)
-    slot_starts = subst (Starts from) (sym found_at.2) t
-
-    pub begin_found : (q : Lent) → Made (begun sha1 (start_of from (path_of s.plens s.paths k))) s q → Answers (begun sha1 (start_of from prefix)) s 0 q
-    begin_found q m = made_answers (begun sha1 (start_of from prefix)) s q (subst (λ (p : Bytes). Made (begun sha1 (start_of from p)) s q) found_at.2 m)
+    pub slot_starts : start_path S ≡ path_of s.plens s.paths k
+    slot_starts = sym found_at.2
 
 -- ---- the write begins at the tree in a slot
 
@@ -177,44 +201,43 @@ module _ (s : Lent) (h : HoldsExactly s) (z : s.ed.«open» ≡ 0) (slot : ℕ) 
   fair : Fair sha1 p (start ∷ []) [] (del at p c)
   fair = begin_fair sha1 p c start found (valid_shut sha1 c (ap (valid sha1) (sym idle) ∙ valid_20 s h))
 
-  module _ (from : ℕ) (one : Record) (order : List ℕ)
-      (e : going_of 20 one s.plens s.paths s.tlens s.trees order ≡ stacked_on start (taken_off start (going_of 20 (opened s.ed from) s.plens s.paths s.tlens s.trees s.order))) where
+  module _ (n : ℕ) (one : Record) (order : List ℕ)
+      (e : going_of 20 one s.plens s.paths s.tlens s.trees order ≡ stacked_on start (taken_off start (going_of 20 (opened s.ed n) s.plens s.paths s.tlens s.trees s.order))) where
     abbrev g : Going
     g = going_of 20 one s.plens s.paths s.tlens s.trees order
 
     stacks : g ≡ first
-    stacks = e ∙ ap (λ (x : Going). stacked_on start (taken_off start x)) (opened_going s.ed s.order h.ordered z from 20 s.plens s.paths s.tlens s.trees)
+    stacks = e ∙ ap (λ (y : Going). stacked_on start (taken_off start y)) (opened_going s.ed s.order h.ordered z n 20 s.plens s.paths s.tlens s.trees)
 
-    pub first_steady : (n : ℕ) × Steady (null 20) n g
-    first_steady = subst (λ (x : Going). (n : ℕ) × Steady (null 20) n x) (sym stacks) (subst (λ (w : ℕ). (n : ℕ) × Steady (null w) n first) sha1_width (steady_fair sha1 p first fair))
+    pub first_steady : (m : ℕ) × Steady (null 20) m g
+    first_steady = subst (λ (y : Going). (m : ℕ) × Steady (null 20) m y) (sym stacks) (subst (λ (w : ℕ). (m : ℕ) × Steady (null w) m first) sha1_width (steady_fair sha1 p first fair))
 
-    module _ (t : Starts from p) (two : Record) (hand : ℕ) (q : Lent) where
+    module _ (x : Where) (t : start_path (start_as x) ≡ p) (two : Record) (hand : ℕ) (q : Lent) where
       abbrev G : Going
       G = going_of 20 two q.plens q.paths q.tlens q.trees q.order
 
       abbrev H : Held
       H = held_at 20 q.plens q.paths q.tlens q.trees hand
 
+      abbrev S : Start
+      S = start_as x
+
       -- what the turns came to
       came : asks_on H G ≡ asking (null 20) g.stack g.kept g.cache → asks_on H G ≡ asking (null sha1.width) (start ∷ []) [] (del at p c)
-      came a = a ∙ ap (λ (x : Going). asking (null 20) x.stack x.kept x.cache) stacks ∙ ap (λ (w : ℕ). asking (null w) (start ∷ []) [] (del at p c)) (sym sha1_width)
+      came a = a ∙ ap (λ (y : Going). asking (null 20) y.stack y.kept y.cache) stacks ∙ ap (λ (w : ℕ). asking (null w) (start ∷ []) [] (del at p c)) (sym sha1_width)
 
-      answer : begun sha1 (start_of from p) (exactly s) ≡ record { code = 0; editor = write_of (start_of from p) (asking (null sha1.width) (start ∷ []) [] (del at p c)) }
+      answer : begun sha1 S (exactly s) ≡ record { code = 0; editor = write_of S (asking (null sha1.width) (start ∷ []) [] (del at p c)) }
       answer =
-          ap (begun sha1 (start_of from p)) idle
-          ∙ begun_at_lem (start_of from p) c start (ap (λ (x : Bytes). find at x c) t.path ∙ found)
-          ∙ ap (λ (x : Bytes). record { code = 0; editor = write_of (start_of from p) (asking (null sha1.width) (start ∷ []) [] (del at x c)) }) t.path
+          ap (begun sha1 S) idle
+          ∙ begun_at_lem S c start (ap (λ (y : Bytes). find at y c) t ∙ found)
+          ∙ ap (λ (y : Bytes). record { code = 0; editor = write_of S (asking (null sha1.width) (start ∷ []) [] (del at y c)) }) t
 
-      pub begins : asks_on H G ≡ asking (null 20) g.stack g.kept g.cache → two.«open» ≡ from → Laid 20 q.ed q.plens q.paths q.tlens q.trees → Ordered q.ed q.order →
-          exactly q ≡ writing_of two.«open» H G → Made (begun sha1 (start_of from p)) s q
+      pub begins : asks_on H G ≡ asking (null 20) g.stack g.kept g.cache → two.«open» ≡ start_number x → Laid 20 q.ed q.plens q.paths q.tlens q.trees → Ordered q.ed q.order →
+          exactly q ≡ writing_of two.«open» H G → Made (begun sha1 S) s q
       begins a f l o w =
-          made (begun sha1 (start_of from p)) (λ E v. begin_valid sha1 (start_of from p) E v) s q h l o
+          made (begun sha1 S) (λ E v. begin_valid sha1 S E v) s q h l o
           (ap (λ (E : Model). record { code = 0; editor = E })
-          (w ∙ ap (λ (n : ℕ). writing_of n H G) f
-          ∙ asks_as p from H G (asking (null sha1.width) (start ∷ []) [] (del at p c)) (came a) (asking_fair sha1 p (null sha1.width) (start ∷ []) [] (del at p c) fair))
+          (w ∙ ap (λ (m : ℕ). writing_of m H G) f
+          ∙ asks_as p (start_number x) H G (asking (null sha1.width) (start ∷ []) [] (del at p c)) (came a) (asking_fair sha1 p (null sha1.width) (start ∷ []) [] (del at p c) fair)
+          ∙ ap (λ (y : Start). write_of y (asking (null sha1.width) (start ∷ []) [] (del at p c))) (start_is x p t))
           ∙ sym answer)
-
--- ---- the write of a cursor
-
-pub cursor_begins : (x y : Bytes) → x ≡ y → (s q : Lent) (n : ℕ) → Does (begun sha1 (from_cursor x)) s n q → Does (begun sha1 (from_cursor y)) s n q
-cursor_begins x y e s q n d = subst (λ (p : Bytes). Does (begun sha1 (from_cursor p)) s n q) e d

@@ -1,13 +1,14 @@
 -- Laws of reading the request: the length of the requested tree's raw form decides between 11 and the tree itself, whose path is short enough for a cursor. Assumes nothing.
 use Prim.Native.Nat.{ℕ, zero, suc, ◌+◌, ◌≤◌, ◌<◌}
 use mathlib.Core.Path.{◌≡◌, refl, sym, ap, ap₂, ◌∙◌, subst}
-use mathlib.Core.Bool.{Bool, true, false, ◌&&◌, ◌||◌}
+use mathlib.Core.Bool.{Bool, true, ◌&&◌, ◌||◌}
 use mathlib.Core.List.{List, [], ◌∷◌}
 use mathlib.Core.Option.{Option, none, some}
 use native.Mathlib.Omega.{arith}
 use borrow.Author.Tests.{le-ltb}
 use lib.ListN.{length, take, drop}
 use lib.Seq.{drop_at}
+use Rattle.std.specs.Prelude.{Result, Ok, Err}
 use Rattle.model.specs.Bytes.{Bytes, is_nil}
 use Rattle.model.specs.Raw.{raw_tree}
 use Rattle.model.specs.Tree.{Tree, well_formed}
@@ -27,21 +28,23 @@ use Rattle.names.proofs.WriteLaws.{splice_front}
 use Rattle.store_runs.specs.Runs.{run_of, Sound}
 use Rattle.store_runs.proofs.FindLaws.{cut_at}
 use Rattle.store_slots.specs.View.{write_of, path_of}
+use Rattle.store_slots.specs.Stores.{Shows as Shown_in}
+use Rattle.store_slots.specs.declared.Store.{Store}
+use Rattle.store_slots.specs.declared.View.{View}
 use Rattle.store_taken.specs.Taken.{Between}
 use Rattle.store_taken.proofs.Steps.{asked_in_hand}
 use Rattle.store_trees.specs.Trees.{Readable}
 use Rattle.store_trees.proofs.Reading.{readable}
 use Rattle.editor.proofs.LookLaws.{front_laid}
-use Rattle.store_check.specs.Decides.{Decides}
-use Rattle.store_check.proofs.Deciding as deciding
-use Rattle.editor_terms.specs.Answers.{code_number}
-use Rattle.editor_terms.specs.declared.code.Code.TheVariants.{Done, NoWriteOpen, OutputShort, StoreDamaged}
-use Rattle.editor_terms.specs.declared.code.Code.{Code}
-use Rattle.editor.specs.Lent.{Lent, Good, viewed}
+use Rattle.editor_terms.specs.declared.refusal.Refusal.{Refusal}
+use Rattle.editor_terms.specs.declared.refusal.Refusal.TheVariants.{NoWriteOpen, OutputShort}
+use Rattle.editor.specs.Lent.{Lent, lent_in, lent_seen, Good, viewed}
 use Rattle.editor.specs.Looks.{standing, cursor_at}
 use Rattle.editor.specs.declared.cursor.Cursor.{Cursor}
 use Rattle.editor.proofs.CursorLaws.{standing_at}
-use Rattle.editor_write.specs.Requests.{shown_number, shown_length, place_in, Shows, Requests}
+use Rattle.editor_write.specs.Requests.{answer_of, len_of, place_of, shown_number, shown_length, place_in, Shows, Requests}
+use Rattle.editor_write.specs.declared.request.Asked.{Asked}
+use Rattle.editor_write.proofs.BackLaws.{seen_is}
 
 -- ---- the model's answer
 
@@ -77,25 +80,26 @@ behind d s q x =
 
 -- ---- the two answers over an open write
 
--- what `refused` answers
-abbrev Refuses : Code → Code → ℕ → Cursor → Type 0
-Refuses by code n place = (code ≡ by) × (n ≡ 0) × (place ≡ cursor_at [])
+-- what the editor's request gives, with the cursor where its tree belongs
+abbrev pub ShowsAs : Model → Result Asked Refusal → Bytes → Bytes → Type 0
+ShowsAs E r before after = Shows (λ m. show m E) (answer_of r) (len_of r) before after × (place_of r ≡ cursor_at (place_in (show (length before) E) (requested E)))
+
+abbrev pub RequestsAs : Lent → Result Asked Refusal → Bytes → Bytes → Type 0
+RequestsAs s r before after = Requests s (answer_of r) (len_of r) (place_of r) before after
 
 module _ (E : Model) (h : Held) (r : requested E ≡ some h) (t : Tree) (e : h.held ≡ t) (out : Bytes) (n : ℕ) (l : n ≡ length (raw_tree t)) where
   is_long : n ≡ length (raw_tree h.held)
   is_long = l ∙ sym (ap (λ (x : Tree). length (raw_tree x)) e)
 
-  pub too_short : length out < n → (code : Code) (m : ℕ) (place : Cursor) → Refuses (OutputShort n) code m place →
-      Shows (λ k. show k E) code m out out × (place ≡ cursor_at (place_in (show (length out) E) (requested E)))
-  too_short k code m place q =
-      let u : show (length out) E ≡ short (length (raw_tree h.held)) = output_short E (length out) h r (omega (arith, k, is_long)) in
-      let w : Shows (λ k. show k E) (OutputShort n) 0 out out = record { is = ap short is_long ∙ sym u; rest = refl; kept = λ z. refl; number = sym (ap shown_number u); long = sym (ap shown_length u) } in (
-        subst (λ (x : Code). Shows (λ k. show k E) x m out out) (sym q.0) (subst (λ (x : ℕ). Shows (λ k. show k E) (OutputShort n) x out out) (sym q.1) w),
-        q.2 ∙ sym (ap (λ (x : Shown). cursor_at (place_in x (requested E))) u),
+  pub too_short : length out < n → ShowsAs E (Err (OutputShort n)) out out
+  too_short k =
+      let u : show (length out) E ≡ short (length (raw_tree h.held)) = output_short E (length out) h r (omega (arith, k, is_long)) in (
+        record { is = ap short is_long ∙ sym u; rest = refl; kept = λ z. refl; number = sym (ap shown_number u); long = sym (ap shown_length u) },
+        sym (ap (λ (x : Shown). cursor_at (place_in x (requested E))) u),
       )
 
   pub all_shown : n ≤ length out → (after : Bytes) → after ≡ splice out 0 (raw_tree t) → (p : ℕ) → p ≡ length (raw_tree t) → (place : Cursor) → place ≡ cursor_at h.path →
-      Shows (λ m. show m E) Done p out after × (place ≡ cursor_at (place_in (show (length out) E) (requested E)))
+      ShowsAs E (Ok (record { len = p; at = place })) out after
   all_shown k after f p g place c =
       let u : show (length out) E ≡ shown (raw_tree h.held) = show_all (length out) E.cached E.writing h r (omega (arith, k, is_long)) in (
         record {
@@ -120,25 +124,28 @@ small (shown b) = omega arith
 small (short m) = omega arith
 small unopened = omega arith
 
-module _ (s : Lent) (out : Bytes) (code : Code) (n : ℕ) (place : Cursor) where
-  pub damaged : (b : Bool) → Decides (Good s) b → b ≡ false → Refuses StoreDamaged code n place → Requests s code n place out out
-  damaged b d e q = record { refused = λ z. (deciding.refused d e, refl, q.1, q.2); done = λ z. absurd (z (ap code_number q.0)) }
-
-  pub none_open : Good s → s.ed.«open» ≡ 0 → Refuses NoWriteOpen code n place → Requests s code n place out out
-  none_open g e q =
+module _ (s : Lent) (out : Bytes) where
+  pub none_open : Good s → s.ed.«open» ≡ 0 → RequestsAs s (Err NoWriteOpen) out out
+  none_open g e =
       let u : show (length out) (viewed s) ≡ unopened = show_none (length out) s.ed.«open» (viewed s).cached _ _ _ e in
-      let w : Shows (λ m. show m (viewed s)) NoWriteOpen 0 out out = record { is = sym u; rest = refl; kept = λ z. refl; number = sym (ap shown_number u); long = sym (ap shown_length u) } in
       record {
-        refused = λ z. absurd (omega (arith, z, ap code_number q.0));
+        refused = λ z. absurd (omega (arith, z));
         done = λ z. (
           g,
-          subst (λ (x : Code). Shows (λ m. show m (viewed s)) x n out out) (sym q.0) (subst (λ (x : ℕ). Shows (λ m. show m (viewed s)) NoWriteOpen x out out) (sym q.1) w),
-          q.2 ∙ sym (ap (λ (x : Shown). cursor_at (place_in x (requested (viewed s)))) u),
+          record { is = sym u; rest = refl; kept = λ z. refl; number = sym (ap shown_number u); long = sym (ap shown_length u) },
+          sym (ap (λ (x : Shown). cursor_at (place_in x (requested (viewed s)))) u),
         );
       }
 
-  pub answers : Good s → (after : Bytes) → Shows (λ m. show m (viewed s)) code n out after × (place ≡ cursor_at (place_in (show (length out) (viewed s)) (requested (viewed s)))) → Requests s code n place out after
-  answers g after w = record { refused = λ z. absurd (omega (arith, z, w.0.number, small (show (length out) (viewed s)))); done = λ z. (g, w.0, w.1) }
+  pub answers : Good s → (r : Result Asked Refusal) (after : Bytes) → ShowsAs (viewed s) r out after → RequestsAs s r out after
+  answers g r after w = record { refused = λ z. absurd (omega (arith, z, w.0.number, small (show (length out) (viewed s)))); done = λ z. (g, w.0, w.1) }
+
+-- the request of a view of the store
+pub reads_on : {v : View} {s : Store} → Shown_in v s → (order : List ℕ) → Good (lent_in s order) → (r : Result Asked Refusal) (before after : Bytes) →
+    ((o : List ℕ) → Good (lent_seen v o) → RequestsAs (lent_seen v o) r before after) → RequestsAs (lent_in s order) r before after
+reads_on k order g r before after w =
+    let e = seen_is k order in
+    subst (λ (x : Lent). RequestsAs x r before after) e (w order (subst Good (sym e) g))
 
 -- the tree that is requested can be read, and its path
 pub can_read : (s : Lent) → Good s → (s.ed.«open» ≡ 0 → ⊥) →

@@ -8,6 +8,7 @@ use native.Mathlib.Omega.{arith}
 use borrow.Author.Tests.{eqb-true, eqb-false}
 use lib.Dec.{eqb}
 use lib.ListN.{length, take}
+use Rattle.std.specs.Prelude.{Ok}
 use Rattle.model.specs.Bytes.{Bytes}
 use Rattle.model.specs.Raw.{raw_tree}
 use Rattle.model.specs.Calls.{Answer}
@@ -20,10 +21,8 @@ use Rattle.model.specs.Written.{as_request, requests}
 use Rattle.model.proofs.Theorems as model
 use Rattle.store_slots.specs.View.{held_at}
 use Rattle.store_check.proofs.StoredLaws.{sha1_width}
-use Rattle.editor_terms.specs.Answers.{code_number}
+use Rattle.editor_terms.specs.Answers.{Answer as Told, code_number}
 use Rattle.editor_terms.specs.Ids.{id_bytes}
-use Rattle.editor_terms.specs.declared.code.Code.{Code}
-use Rattle.editor_terms.specs.declared.code.Code.TheVariants.{Done}
 use Rattle.editor_terms.specs.declared.id.Id.{Id}
 use Rattle.editor.specs.Lent.{Lent, Good, viewed, Does}
 use Rattle.editor.specs.Looks.{cursor_at}
@@ -45,20 +44,20 @@ is_asked : (s : Lent) → (s.ed.«open» ≡ 0 → ⊥) → requested (viewed s)
 is_asked s n = asked_of s.ed.«open» (viewed s).cached (asked s) _ _ n
 
 -- with 45,056 bytes of output a request is answered with its tree and its path
-pub output_suffices : (s : Lent) (code : Code) (n : ℕ) (place : Cursor) (before after : Bytes) → Good s → (s.ed.«open» ≡ 0 → ⊥) → 45056 ≤ length before → Requests s code n place before after →
-    (code ≡ Done) × (take n after ≡ raw_tree (asked s).held) × (place ≡ cursor_at (asked s).path)
+pub output_suffices : (s : Lent) (code : Told) (n : ℕ) (place : Cursor) (before after : Bytes) → Good s → (s.ed.«open» ≡ 0 → ⊥) → 45056 ≤ length before → Requests s code n place before after →
+    (code ≡ Ok tt) × (take n after ≡ raw_tree (asked s).held) × (place ≡ cursor_at (asked s).path)
 output_suffices s code n place before after g o l r = go (eqb (code_number code) 13) refl
   where
     u : show (length before) (viewed s) ≡ shown (raw_tree (asked s).held)
     u = model.output_20 sha1 (viewed s) (length before) (asked s) sha1_width (viewed_valid s g) l (is_asked s o)
 
-    go : (b : Bool) → eqb (code_number code) 13 ≡ b → (code ≡ Done) × (take n after ≡ raw_tree (asked s).held) × (place ≡ cursor_at (asked s).path)
+    go : (b : Bool) → eqb (code_number code) 13 ≡ b → (code ≡ Ok tt) × (take n after ≡ raw_tree (asked s).held) × (place ≡ cursor_at (asked s).path)
     go true e = absurd ((r.refused (eqb-true (code_number code) 13 e)).0 g)
     go false e =
         let d = r.done (eqb-false (code_number code) 13 e) in
-        let c : code ≡ Done = zero_code code (d.1.number ∙ ap shown_number u) in (
+        let c : code ≡ Ok tt = zero_code code (d.1.number ∙ ap shown_number u) in (
           c,
-          ap (front_of []) (ap (λ (x : Code). shown_as x n after) (sym c) ∙ d.1.is ∙ u),
+          ap (front_of []) (ap (λ (x : Told). shown_as x n after) (sym c) ∙ d.1.is ∙ u),
           d.2 ∙ ap₂ (λ (x : Shown) (y : Option Held). cursor_at (place_in x y)) u (is_asked s o),
         )
 

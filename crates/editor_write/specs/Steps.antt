@@ -1,11 +1,9 @@
 -- What a call of the write leaves in slices as long as a store. Assumes nothing.
-use Rattle.std.specs.Prelude.{ℕ, ◌≤◌, ◌≡◌, take}
-use Rattle.model.specs.Bytes.{Bytes}
+use Rattle.std.specs.Prelude.{ℕ, ◌≡◌, take}
 use Rattle.model.specs.Calls.{Answer}
-use Rattle.model.specs.Editor.{start_path}
 use Rattle.model.specs.Editor.{Editor as Model}
 use Rattle.model.specs.Formats.{sha1}
-use Rattle.store_slots.specs.View.{start_of, editor_of, Holds}
+use Rattle.store_slots.specs.View.{editor_of, Holds}
 use Rattle.editor.specs.Lent.{Lent, lent, Still}
 
 -- the fronts of lent slices, which are as long as a store where it holds an editor
@@ -31,9 +29,3 @@ pub record Answers (f : Model → Answer) (s : Lent) (code : ℕ) (q : Lent) : T
   pub is : record { code = code; editor = exactly q } ≡ f (exactly s)
   pub kept : Still code → q ≡ s
   pub usual : code ≡ 13 → ⊥
-
--- a write may begin at a path: from the root (1), or from a cursor (2)
-pub record Starts (from : ℕ) (p : Bytes) : Type 0 where
-  pub low : 1 ≤ from
-  pub high : from ≤ 2
-  pub path : start_path (start_of from p) ≡ p

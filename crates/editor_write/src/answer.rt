@@ -5,7 +5,8 @@ ghost use Rattle.model.specs.Formats.{sha1};
 ghost use Rattle.model.specs.Write.{answered};
 ghost use Rattle.editor_terms.specs.Answers.{code_number};
 ghost use Rattle.editor_terms.specs.Ids.{id_bytes};
-ghost use Rattle.editor.specs.Lent.{lent, Good, Does};
+ghost use Rattle.store_slots.specs.Stores.{SameLent};
+ghost use Rattle.editor.specs.Lent.{lent, lent_in, Good, Does};
 ghost use Rattle.editor_write.specs.Steps.{HoldsExactly, Made};
 
 use editor_terms::id::Id;
@@ -55,6 +56,32 @@ fn answer_held(s: &mut Store<'_>, order: &mut [u64], id: Id)
     }
 }
 
+// The same over its parts.
+// Stays: parts as parameters; of fronts put into a `Store` at once, and of parts taken out of one by a pattern, the check made no proof (both were tried).
+fn answer_exact(
+    ed: &mut Record,
+    plens: &mut [u64],
+    paths: &mut [u8],
+    tlens: &mut [u64],
+    trees: &mut [u8],
+    order: &mut [u64],
+    id: Id,
+)
+    requires { HoldsExactly (lent ed.old plens.old paths.old tlens.old trees.old order.old) × (ed.old.«open» ≡ 0 → ⊥) }
+    ensures { Made (answered sha1 (id_bytes id))
+        (lent ed.old plens.old paths.old tlens.old trees.old order.old) (lent ed.new plens.new paths.new tlens.new trees.new order.new) }
+{
+    let mut exact = Store {
+        ed: *ed,
+        plens,
+        paths,
+        tlens,
+        trees,
+    };
+    answer_held(&mut exact, order, id);
+    *ed = exact.ed;
+}
+
 // The same in the fronts of slices that may be longer.
 fn answer_fronts(
     ed: &mut Record,
@@ -66,17 +93,18 @@ fn answer_fronts(
     id: Id,
 )
     requires { Good (lent ed.old plens.old paths.old tlens.old trees.old order.old) × (ed.old.«open» ≡ 0 → ⊥) }
-    ensures { Does (answered sha1 (id_bytes id)) (lent ed.old plens.old paths.old tlens.old trees.old order.old) 0 (lent ed.new plens.new paths.new tlens.new trees.new order.new) }
+    ensures { Does (answered sha1 (id_bytes id))
+        (lent ed.old plens.old paths.old tlens.old trees.old order.old) 0 (lent ed.new plens.new paths.new tlens.new trees.new order.new) }
 {
-    let mut exact = Store {
-        ed: *ed,
-        plens: &mut plens[..SLOTS],
-        paths: &mut paths[..PATH_BYTES],
-        tlens: &mut tlens[..SLOTS],
-        trees: &mut trees[..TREE_BYTES],
-    };
-    answer_held(&mut exact, &mut order[..SLOTS], id);
-    *ed = exact.ed;
+    answer_exact(
+        ed,
+        &mut plens[..SLOTS],
+        &mut paths[..PATH_BYTES],
+        &mut tlens[..SLOTS],
+        &mut trees[..TREE_BYTES],
+        &mut order[..SLOTS],
+        id,
+    );
 }
 
 // An answer over a store that holds an editor: 10 where no write is open, else it is made in the fronts of the slices.
@@ -89,7 +117,15 @@ pub(crate) fn answer_accepted(s: &mut Store<'_>, order: &mut [u64], id: Id) -> R
     if s.ed.open == 0 {
         return Err(Refusal::NoWriteOpen);
     }
-    answer_fronts(&mut s.ed, &mut *s.plens, &mut *s.paths, &mut *s.tlens, &mut *s.trees, order, id);
+    answer_fronts(
+        &mut s.ed,
+        &mut *s.plens,
+        &mut *s.paths,
+        &mut *s.tlens,
+        &mut *s.trees,
+        order,
+        id,
+    );
     Ok(())
 }
 

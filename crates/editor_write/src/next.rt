@@ -3,8 +3,9 @@ ghost use Rattle.model.specs.Formats.{sha1};
 ghost use Rattle.model.specs.Write.{answered};
 ghost use Rattle.editor_terms.specs.Answers.{code_number};
 ghost use Rattle.editor_terms.specs.Ids.{id_bytes};
-ghost use Rattle.editor.specs.Lent.{lent, Does};
-ghost use Rattle.editor_write.specs.Requests.{Requests};
+ghost use Rattle.store_slots.specs.Stores.{SameLent};
+ghost use Rattle.editor.specs.Lent.{lent_in, Does};
+ghost use Rattle.editor_write.specs.Requests.{answer_of, len_of, place_of, Requests};
 
 use crate::request::Asked;
 use editor_terms::id::Id;
@@ -19,7 +20,12 @@ pub struct AnsweredAndRead {
 }
 
 // Answers the open request with the id of the tree that was requested, and reads the request that is open then.
-pub fn answer_and_request(s: &mut Store<'_>, order: &mut [u64], id: Id, out: &mut [u8]) -> AnsweredAndRead
+pub fn answer_and_request(
+    s: &mut Store<'_>,
+    order: &mut [u64],
+    id: Id,
+    out: &mut [u8],
+) -> AnsweredAndRead
     ensures done { Does (answered sha1 (id_bytes id)) (lent_in s.old order.old) (code_number result.answer)
         (lent_in s.new order.new)
         × Requests (lent_in s.new order.new) (answer_of result.next) (len_of result.next) (place_of result.next) out.old out.new }

@@ -4,12 +4,12 @@ ghost use Rattle.std.proofs.Math.Option.{some};
 ghost use Rattle.model.specs.Editor.{Held};
 ghost use Rattle.model.specs.Editor.{Editor as Model};
 ghost use Rattle.model.specs.Write.{requested, show};
-ghost use Rattle.store_runs.specs.Runs.{Sound};
 ghost use Rattle.store_slots.specs.View.{held_at};
+ghost use Rattle.store_slots.specs.Stores.{KeysSound};
 ghost use Rattle.store_trees.specs.Trees.{Readable};
-ghost use Rattle.editor.specs.Lent.{lent, Good};
+ghost use Rattle.editor.specs.Lent.{lent_seen, Good};
 ghost use Rattle.editor.specs.Looks.{cursor_at};
-ghost use Rattle.editor_write.specs.Requests.{place_in, Shows, Requests};
+ghost use Rattle.editor_write.specs.Requests.{answer_of, len_of, place_of, place_in, Shows, Requests};
 
 use editor::cursor::Cursor;
 use editor_terms::refusal::Refusal;
@@ -25,9 +25,11 @@ pub struct Asked {
 
 // The request over slices that hold an editor with an open write.
 fn request_held(v: View<'_>, out: &mut [u8]) -> Result<Asked, Refusal>
-    requires { Readable 20 v.ed v.tlens.now v.trees.now v.ed.asked × Sound v.plens.now v.paths.now v.ed.paths × (v.ed.asked < length v.plens.now) }
-    ensures { (E : Model) (h : Held) → requested E ≡ some h → h ≡ held_at 20 v.entry.plens.now v.entry.paths.now v.entry.tlens.now v.entry.trees.now v.entry.ed.asked → length h.path ≤ 1024
-        → Shows (λ m. show m E) (answer_of result) (len_of result) out.old out.new × (place_of result ≡ cursor_at (place_in (show (length out.old) E) (requested E))) }
+    requires { Readable 20 v.ed v.tlens.now v.trees.now v.ed.asked × KeysSound v × (v.ed.asked < length v.plens.now) }
+    ensures { (E : Model) (h : Held) → requested E ≡ some h
+        → h ≡ held_at 20 v.entry.plens.now v.entry.paths.now v.entry.tlens.now v.entry.trees.now v.entry.ed.asked → length h.path ≤ 1024
+        → Shows (λ m. show m E) (answer_of result) (len_of result) out.old out.new
+        × (place_of result ≡ cursor_at (place_in (show (length out.old) E) (requested E))) }
 {
     let slot = v.ed.asked;
     let n = store_trees::raw::raw_len_of(v, WIDTH, slot);

@@ -1,23 +1,24 @@
--- `editor_write::begin::begin_held` meets its contract: the search says whether a tree is cached at the prefix, and in which slot. Assumes nothing.
-use Rattle.editor.specs.Lent.{lent}
-use Rattle.editor_write.proofs.BeginLaws.{begin_stale, slot_cached, slot_starts, begin_found}
+-- `editor_write::begin::begin_held` meets its contract: the search says whether a tree is cached at the path, and in which slot. Assumes nothing.
+use Rattle.editor.specs.Lent.{lent_in}
+use Rattle.editor.proofs.LookLaws.{missing_as}
+use Rattle.editor_terms.specs.declared.refusal.Refusal.TheVariants.{CursorStale}
+use Rattle.editor_write.specs.Starts.{start_as}
+use Rattle.editor_write.proofs.BeginLaws.{found_in, begin_stale, slot_cached, slot_starts}
 use Rattle.editor_write.proofs.begin.begin_held.Goals as goal
 
-pub begin_slot-q-requires : goal.begin_slot-q-requires
-begin_slot-q-requires c =
-    let a = c.args in (
+pub returns-in_err-slot-clause-done : goal.returns-in_err-slot-clause-done
+returns-in_err-slot-clause-done c =
+    let e = c.in_err-slot.ensures in
+    rw (missing_as c.from_residual.result c.find.result CursorStale c.from_residual.ensures.1 e.ok_part e.value)
+    (begin_stale (lent_in c.args.s.now c.args.order.now) c.requires.0 c.requires.1 (start_as c.args.start) c.find.result (found_in c.find.result c.view.ensures c.path.ensures c.find.ensures) e.ok_part)
+
+pub begin_slot-requires : goal.begin_slot-requires
+begin_slot-requires c =
+    let s = lent_in c.args.s.now c.args.order.now in
+    let f = found_in c.find.result c.view.ensures c.path.ensures c.find.ensures in
+    let e = c.in_ok-slot.ensures.ok_part in (
       c.requires.0,
       c.requires.1,
-      slot_cached (lent a.ed a.plens.now a.paths.now a.tlens.now a.trees.now a.order.now) c.requires.0 c.requires.1 a.prefix.now a.from c.requires.2 c.find.result c.find.ensures c.in-At.slot c.in-At.is,
-      slot_starts (lent a.ed a.plens.now a.paths.now a.tlens.now a.trees.now a.order.now) c.requires.0 c.requires.1 a.prefix.now a.from c.requires.2 c.find.result c.find.ensures c.in-At.slot c.in-At.is,
+      slot_cached s c.requires.0 c.requires.1 (start_as c.args.start) c.find.result f c.in_ok-slot.slot e,
+      slot_starts s c.requires.0 c.requires.1 (start_as c.args.start) c.find.result f c.in_ok-slot.slot e,
     )
-
-pub returns-in-Nothing : goal.returns-in-Nothing
-returns-in-Nothing c =
-    let a = c.args in
-    begin_stale (lent a.ed a.plens.now a.paths.now a.tlens.now a.trees.now a.order.now) c.requires.0 c.requires.1 a.prefix.now a.from c.requires.2 c.find.result c.find.ensures c.in-Nothing.is
-
-pub returns-in-At : goal.returns-in-At
-returns-in-At c =
-    let a = c.args in
-    begin_found (lent a.ed a.plens.now a.paths.now a.tlens.now a.trees.now a.order.now) c.requires.0 c.requires.1 a.prefix.now a.from c.requires.2 c.find.result c.find.ensures c.in-At.slot c.in-At.is (lent c.begin_slot-q.result c.begin_slot-q.new.plens c.begin_slot-q.new.paths c.begin_slot-q.new.tlens c.begin_slot-q.new.trees c.begin_slot-q.new.order) c.begin_slot-q.ensures

@@ -3,34 +3,35 @@ use mathlib.Core.Path.{◌∙◌}
 use mathlib.Core.List.{[]}
 use native.Mathlib.Omega.{arith}
 use Rattle.store_taken.proofs.Steps.{laid_same}
-use Rattle.editor.specs.Lent.{lent}
+use Rattle.editor.specs.Lent.{lent, lent_in}
 use Rattle.editor_write.proofs.BeginLaws.{opened, opened_between, opened_laid, first_steady, begins}
 use Rattle.editor_write.proofs.begin.begin_slot.Goals as goal
 
-pub stack-one-requires : goal.stack-one-requires
-stack-one-requires c =
-    let a = c.args in
-    (([], opened_between a.ed a.order.now c.requires.0.ordered c.requires.1 a.from c.requires.3.low c.requires.3.high), record { low = c.requires.2.low; shown = c.requires.2.shown })
+pub stack-requires : goal.stack-requires
+stack-requires c =
+    let s = c.args.s.now in
+    (([], opened_between s.ed c.args.order.now c.requires.0.ordered c.requires.1 c.number-s.result c.args.start c.number-s.ensures), record { low = c.requires.2.low; shown = c.requires.2.shown })
 
 pub onward-next-requires : goal.onward-next-requires
 onward-next-requires c =
-    let a = c.args in
-    let l = opened_laid (lent a.ed a.plens.now a.paths.now a.tlens.now a.trees.now a.order.now) c.requires.0 c.requires.1 a.slot c.requires.2 a.from in (
-      laid_same 20 (opened a.ed a.from) c.stack-one.result a.plens.now a.paths.now a.tlens.now a.trees.now c.stack-one.ensures.same.0 l,
+    let s = c.args.s.now in
+    let o = c.args.order.now in
+    let n = c.number-s.result in
+    let l = opened_laid (lent_in s o) c.requires.0 c.requires.1 c.args.slot c.requires.2 n in (
+      laid_same 20 (opened s.ed n) c.stack.new.ed s.plens.now s.paths.now s.tlens.now s.trees.now c.stack.ensures.same.0 l,
       omega arith,
-      c.stack-one.ensures.between [] (opened_between a.ed a.order.now c.requires.0.ordered c.requires.1 a.from c.requires.3.low c.requires.3.high),
-      first_steady (lent a.ed a.plens.now a.paths.now a.tlens.now a.trees.now a.order.now) c.requires.0 c.requires.1 a.slot c.requires.2 a.from c.stack-one.result c.stack-one.new.order (c.stack-one.ensures.going 20 a.plens.now a.paths.now a.tlens.now a.trees.now l),
+      c.stack.ensures.between [] (opened_between s.ed o c.requires.0.ordered c.requires.1 n c.args.start c.number-s.ensures),
+      first_steady (lent_in s o) c.requires.0 c.requires.1 c.args.slot c.requires.2 n c.stack.new.ed c.stack.new.order (c.stack.ensures.going 20 s.plens.now s.paths.now s.tlens.now s.trees.now l),
     )
 
-pub returns : goal.returns
-returns c =
-    let a = c.args in
-    let p₁ = c.onward-next.new.plens in
-    let p₂ = c.onward-next.new.paths in
-    let p₃ = c.onward-next.new.tlens in
-    let p₄ = c.onward-next.new.trees in
-    let p₅ = c.onward-next.new.order in
-    let two = c.onward-next.result.editor in
-    let q = c.ask.result in
-    let l = opened_laid (lent a.ed a.plens.now a.paths.now a.tlens.now a.trees.now a.order.now) c.requires.0 c.requires.1 a.slot c.requires.2 a.from in
-    begins (lent a.ed a.plens.now a.paths.now a.tlens.now a.trees.now a.order.now) c.requires.0 c.requires.1 a.slot c.requires.2 a.from c.stack-one.result c.stack-one.new.order (c.stack-one.ensures.going 20 a.plens.now a.paths.now a.tlens.now a.trees.now l) c.requires.3 two c.onward-next.result.slot (lent q p₁ p₂ p₃ p₄ p₅) c.onward-next.ensures.asks (c.onward-next.ensures.same ∙ c.stack-one.ensures.same.1) (laid_same 20 two q p₁ p₂ p₃ p₄ c.ask.ensures.same.0 c.onward-next.ensures.laid) (c.ask.ensures.ordered p₅ c.onward-next.ensures.between) (c.ask.ensures.editor 20 p₁ p₂ p₃ p₄ p₅ c.onward-next.ensures.between)
+pub returns-clause-done : goal.returns-clause-done
+returns-clause-done c =
+    let s = c.args.s.now in
+    let n = c.number-s.result in
+    let two = c.onward-next.new.s in
+    let o = c.onward-next.new.order in
+    let q = c.ask.new.ed in
+    let l = opened_laid (lent_in s c.args.order.now) c.requires.0 c.requires.1 c.args.slot c.requires.2 n in
+    begins (lent_in s c.args.order.now) c.requires.0 c.requires.1 c.args.slot c.requires.2 n c.stack.new.ed c.stack.new.order (c.stack.ensures.going 20 s.plens.now s.paths.now s.tlens.now s.trees.now l) c.args.start c.requires.3 two.ed c.onward-next.result
+    (lent q two.plens.now two.paths.now two.tlens.now two.trees.now o) c.onward-next.ensures.asks (c.onward-next.ensures.same ∙ c.stack.ensures.same.1 ∙ c.number-s.ensures)
+    (laid_same 20 two.ed q two.plens.now two.paths.now two.tlens.now two.trees.now c.ask.ensures.same.0 c.onward-next.ensures.laid) (c.ask.ensures.ordered o c.onward-next.ensures.between) (c.ask.ensures.editor 20 two.plens.now two.paths.now two.tlens.now two.trees.now o c.onward-next.ensures.between)
