@@ -28,7 +28,7 @@ use Rattle.model.proofs.Basics.{some_none}
 use Rattle.model.proofs.Theorems.{alike, output_20}
 use Rattle.editor_terms.specs.declared.refusal.Refusal.{Refusal}
 use Rattle.editor_terms.proofs.IdLaws.{sha1_wide}
-use Rattle.editor.specs.Lent.{Lent, Good, viewed, Does}
+use Rattle.editor.specs.Lent.{Lent, Good, viewed}
 use Rattle.editor.specs.declared.cursor.Cursor.{Cursor}
 use Rattle.editor.specs.Looks.{cursor_at}
 use Rattle.editor_write.specs.Requests.{shown_number, place_in}
@@ -36,21 +36,9 @@ use Rattle.editor_write.specs.declared.request.Asked.{Asked}
 use Rattle.editor_write.proofs.Theorems.{viewed_valid}
 use Rattle.theorems.specs.Public.{RequestSays}
 use Rattle.theorems.specs.Runs.{Upserts, AllDone, given, Reads, Asks, Writes}
+use Rattle.theorems.proofs.Accepted.{does_is, does_good}
 use Rattle.theorems.proofs.OneAnswer.{not_0}
 use Rattle.theorems.proofs.OneRequest.{show_none, shown_inj}
-
--- ---- what a call leaves of an editor that is held
-
--- over a store that holds an editor, the number and the editor are the model's, and the store holds that editor
-module _ (f : Model → Answer) (s : Lent) (n : ℕ) (t : Lent) (d : Does f s n t) (g : Good s) where
-  usual : n ≡ 13 → ⊥
-  usual z = (d.refused z).0 g
-
-  pub does_is : record { code = n; editor = viewed t } ≡ f (viewed s)
-  does_is = (d.done usual).1
-
-  pub does_good : Good t
-  does_good = (d.done usual).2
 
 -- ---- upserts
 

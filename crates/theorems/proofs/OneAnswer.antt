@@ -25,7 +25,7 @@ use Rattle.model.specs.Valid.{valid}
 use Rattle.model.specs.Order.{idle}
 use Rattle.model.proofs.LowNumbers.{measured_low}
 use Rattle.model.proofs.MeasureRight.{measure_code}
-use Rattle.model.specs.Lookup.{found, looked}
+use Rattle.model.specs.Lookup.{Looked, found, looked}
 use Rattle.names.specs.declared.mode.EntryKind.{EntryKind}
 use Rattle.names.proofs.AnswerLaws.{one_kind}
 use Rattle.editor_terms.specs.Answers.{Answer as Told, refusal_number, code_number}
@@ -43,6 +43,7 @@ use Rattle.editor.proofs.SameAnswers.{Same, same_look, same_does, same_makes}
 use Rattle.editor.proofs.LookLaws.{refusal_of, looked_low}
 use Rattle.editor_write.proofs.Theorems.{viewed_valid}
 use Rattle.theorems.specs.Public.{Call, does, Public, new, call, Says, Opens, set_root_call, edit, cursor_at_call, begin, begin_at, answer, answer_and_request, fail}
+use Rattle.theorems.proofs.Accepted.{does_is}
 
 -- ---- the number decides the case
 
@@ -77,7 +78,7 @@ not_0 r e =
     let z : r ≡ StoreDamaged = sym (refusal_back r (λ z. omega (arith, e, z))) ∙ ap refusal_at e in
     omega (arith, e, ap refusal_number z)
 
-pub one_code : (k k' : Told) → (code_number k ≡ 11 → ⊥) → code_number k ≡ code_number k' → k ≡ k'
+one_code : (k k' : Told) → (code_number k ≡ 11 → ⊥) → code_number k ≡ code_number k' → k ≡ k'
 one_code (Ok d) (Ok d') h e = refl
 one_code (Ok d) (Err r') h e = absurd (not_0 r' (sym e))
 one_code (Err r) (Ok d') h e = absurd (not_0 r e)
@@ -197,7 +198,6 @@ pub one_answer : (x : Public) (s : Lent) (k k' : Told) (q q' : Lent) → Says x 
 one_answer (new raw) = makes_one raw
 one_answer (call x) = does_one (does x) (not_11 x)
 
--- and the cursors of an opening are equal, every byte
 one_opened : (path : Bytes) (r r' : Result Cursor Refusal) → (opened_number r ≡ 11 → ⊥) → opened_number r ≡ opened_number r' →
     IfOk r (λ c. c ≡ cursor_at path) → IfOk r' (λ c. c ≡ cursor_at path) → r ≡ r'
 one_opened path (Ok c) (Ok c') h e t t' = ap Ok (t ∙ sym t')
@@ -205,6 +205,7 @@ one_opened path (Ok c) (Err x') h e t t' = absurd (not_0 x' (sym e))
 one_opened path (Err x) (Ok c') h e t t' = absurd (not_0 x e)
 one_opened path (Err x) (Err x') h e t t' = ap Err (one_refusal x x' h e)
 
+-- and the cursors of an opening are equal, every byte
 pub one_opening : (T : Table) (path : Bytes) (s : Lent) (r r' : Result Cursor Refusal) (q q' : Lent) → Opens T path s r q → Opens T path s r' q' →
     (r ≡ r') × Same (opened_number r) q (opened_number r') q'
 one_opening T path s r r' q q' o o' =
@@ -231,8 +232,13 @@ one_looked n (Err x) (Ok (Some s)) l e = absurd (let z : ◌≡◌ {A = ℕ} 0 1
 one_looked n (Err x) (Ok None) l e = absurd (let z : ◌≡◌ {A = ℕ} 0 1 = cc in omega arith)
 one_looked n (Err x) (Err x') l e = ap Err (one_refusal x x' l (ap refusal_of e))
 
+-- over a store that holds an editor a lookup is the model's
+pub looks_is : (prefix path : Bytes) (s : Lent) (r : Looked) → Looks prefix path s r → Good s → r ≡ looked prefix path (viewed s)
+looks_is prefix path s r l g = (l.answered (λ z. l.refused z g)).1
+
 -- two answers of `look::get` are equal
-pub one_lookup : (prefix path : Bytes) (s : Lent) (r r' : Result (Opt Seen) Refusal) → Looks prefix path s (looked_as (base path) r) → Looks prefix path s (looked_as (base path) r') → r ≡ r'
+pub one_lookup : (prefix path : Bytes) (s : Lent) (r r' : Result (Opt Seen) Refusal) →
+    Looks prefix path s (looked_as (base path) r) → Looks prefix path s (looked_as (base path) r') → r ≡ r'
 one_lookup prefix path s r r' l l' = one_looked (base path) r r' not_11 (same_look prefix path s (looked_as (base path) r) (looked_as (base path) r') l l')
   where
     not_11 : refusal_of (looked_as (base path) r) ≡ 11 → ⊥
@@ -246,8 +252,8 @@ one_lookup prefix path s r r' l l' = one_looked (base path) r r' not_11 (same_lo
 pub spare_unread : (x : Call) (s s' : Lent) (k k' : Told) (q q' : Lent) → Good s → Good s' → viewed s ≡ viewed s' →
     Says (call x) s (code_number k) q → Says (call x) s' (code_number k') q' → (k ≡ k') × (viewed q ≡ viewed q')
 spare_unread x s s' k k' q q' g g' v d d' =
-    let m = (d.done (λ z. (d.refused z).0 g)).1 in
-    let m' = (d'.done (λ z. (d'.refused z).0 g')).1 in
+    let m = does_is (does x) s (code_number k) q d g in
+    let m' = does_is (does x) s' (code_number k') q' d' g' in
     let z : ◌≡◌ {A = Answer} (record { code = code_number k; editor = viewed q }) (record { code = code_number k'; editor = viewed q' }) = m ∙ ap (does x) v ∙ sym m' in
     let h : code_number k ≡ 11 → ⊥ = λ e. not_11 x (viewed s) (viewed_valid s g) (ap (λ (a : Answer). a.code) (sym m) ∙ e) in
     (one_code k k' h (ap (λ (a : Answer). a.code) z), ap (λ (a : Answer). a.editor) z)
@@ -256,6 +262,6 @@ spare_unread x s s' k k' q q' g g' v d d' =
 pub spare_unread_lookup : (prefix path : Bytes) (s s' : Lent) (r r' : Result (Opt Seen) Refusal) → Good s → Good s' → viewed s ≡ viewed s' →
     Looks prefix path s (looked_as (base path) r) → Looks prefix path s' (looked_as (base path) r') → r ≡ r'
 spare_unread_lookup prefix path s s' r r' g g' v l l' =
-    let m = (l.answered (λ z. l.refused z g)).1 in
-    let m' = (l'.answered (λ z. l'.refused z g')).1 in
+    let m = looks_is prefix path s (looked_as (base path) r) l g in
+    let m' = looks_is prefix path s' (looked_as (base path) r') l' g' in
     one_looked (base path) r r' (λ e. omega (arith, e, ap refusal_of m, looked_low prefix path (viewed s))) (m ∙ ap (looked prefix path) v ∙ sym m')

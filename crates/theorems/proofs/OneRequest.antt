@@ -1,4 +1,4 @@
--- A request is answered by the editor that is held alone, and the length told with 11 is the raw tree's, because the model's is. Assumes nothing.
+-- Any two answers of a request are equal. It is answered by the editor that is held alone, and the length told with 11 is the raw tree's, because the model's is. Assumes nothing.
 use Prim.Native.Nat.{ℕ, ◌<◌}
 use mathlib.Core.Path.{◌≡◌, refl, sym, ap, ap₂, ◌∙◌, subst}
 use mathlib.Core.Bool.{Bool, true, false}
@@ -38,13 +38,15 @@ one_asked (Err x) (Ok a') e l p = absurd (not_0 x (ap code_number e))
 one_asked (Err x) (Err y) e l p = ap Err (err_inj e)
 
 -- two answers of `request::request`, and the outputs after them
-pub one_request : (s : Lent) (before : Bytes) (r r' : Result Asked Refusal) (after after' : Bytes) → RequestSays s r before after → RequestSays s r' before after' → (r ≡ r') × (after ≡ after')
+pub one_request : (s : Lent) (before : Bytes) (r r' : Result Asked Refusal) (after after' : Bytes) →
+    RequestSays s r before after → RequestSays s r' before after' → (r ≡ r') × (after ≡ after')
 one_request s before r r' after after' x x' =
     let z = same_request s before (answer_of r) (answer_of r') (len_of r) (len_of r') (place_of r) (place_of r') after after' x x' in
     (one_asked r r' z.code z.long z.place, z.output)
 
 -- over two stores that hold one editor a request is answered the same
-moved : (s s' : Lent) (before : Bytes) (r : Result Asked Refusal) (after : Bytes) → Good s → Good s' → viewed s ≡ viewed s' → RequestSays s' r before after → RequestSays s r before after
+moved : (s s' : Lent) (before : Bytes) (r : Result Asked Refusal) (after : Bytes) → Good s → Good s' → viewed s ≡ viewed s' →
+    RequestSays s' r before after → RequestSays s r before after
 moved s s' before r after g g' v x =
     record {
       refused = λ z. absurd ((x.refused z).0 g');

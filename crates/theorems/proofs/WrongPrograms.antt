@@ -33,7 +33,8 @@ use Rattle.editor_write.specs.declared.request.Asked.{Asked}
 use Rattle.theorems.specs.Examples.{a, first, put_a, put_ab, script, refusals}
 use Rattle.theorems.specs.Public.{Call, does, new, call, Says, Made, Proceeds, begin, answer}
 use Rattle.theorems.specs.Runs.{given}
-use Rattle.theorems.proofs.Accepted.{all_accepted}
+use Rattle.theorems.proofs.Accepted.{does_is, does_good, all_accepted}
+use Rattle.theorems.proofs.OneAnswer.{looks_is}
 use Rattle.theorems.proofs.AnyOrder.{reads_is}
 
 -- the definitions that the computing looks through
@@ -50,9 +51,7 @@ empty_root E = refl
 -- ---- over a store that holds an editor a call does what the model does
 
 does_model : (x : Call) (s : Lent) (c : ℕ) (q : Lent) → Good s → Does (does x) s c q → (record { code = c; editor = viewed q } ≡ does x (viewed s)) × Good q
-does_model x s c q g d =
-    let m = d.done (λ z. (d.refused z).0 g) in
-    (m.1, m.2)
+does_model x s c q g d = (does_is (does x) s c q d g, does_good (does x) s c q d g)
 
 -- the numbers of calls made one after the other on an editor, and the editor at the end
 abbrev numbers : List Call → Model → List ℕ
@@ -151,8 +150,8 @@ module _ (s q : Lent) (c : ℕ) (g : Good s) (v : viewed s ≡ root_only []) (d 
   pub no_fixed_lookup : (r : Looked) → Looks [] a s r → Looks [] a q r → ⊥
   no_fixed_lookup r l l' =
       let h : Good q = (does_model put_a s c q g d).1 in
-      let x : r ≡ missing = (l.answered (λ z. l.refused z g)).1 ∙ ap (looked [] a) v ∙ nothing in
-      let y : r ≡ found (file a) = (l'.answered (λ z. l'.refused z h)).1 ∙ ap (looked [] a) after_a.1 ∙ something in
+      let x : r ≡ missing = looks_is [] a s r l g ∙ ap (looked [] a) v ∙ nothing in
+      let y : r ≡ found (file a) = looks_is [] a q r l' h ∙ ap (looked [] a) after_a.1 ∙ something in
       missing_found (file a) (sym x ∙ y)
 
 -- ---- a write that requests one tree and only pretends the rest
