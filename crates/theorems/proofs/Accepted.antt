@@ -21,14 +21,23 @@ use Rattle.theorems.specs.Public.{does, Public, new, call, Says, Made}
 
 -- ---- one call
 
+-- over a store that holds an editor, the number and the editor are the model's, and the store holds that editor
+module _ (f : Model → Answer) (s : Lent) (n : ℕ) (t : Lent) (d : Does f s n t) (g : Good s) where
+  usual : n ≡ 13 → ⊥
+  usual z = (d.refused z).0 g
+
+  pub does_is : record { code = n; editor = viewed t } ≡ f (viewed s)
+  does_is = (d.done usual).1
+
+  pub does_good : Good t
+  does_good = (d.done usual).2
+
 -- over a store that holds an editor no call answers 13, and the store holds one afterwards
 abbrev Keeps : Lent → ℕ → Lent → Type 0
 Keeps s c q = Good s → (c ≡ 13 → ⊥) × Good q
 
 does_keeps : (f : Model → Answer) (s : Lent) (c : ℕ) (q : Lent) → Does f s c q → Keeps s c q
-does_keeps f s c q d g =
-    let n : c ≡ 13 → ⊥ = λ z. (d.refused z).0 g in
-    (n, (d.done n).2)
+does_keeps f s c q d g = (usual f s c q d g, does_good f s c q d g)
 
 good_long : (s : Lent) → Good s → Long s
 unfolding sha1

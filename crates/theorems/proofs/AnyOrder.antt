@@ -9,6 +9,7 @@ use borrow.Author.Tests.{eqb-true, eqb-false}
 use lib.Dec.{eqb}
 use lib.ListN.{length, take}
 use lib.Seq.{take-append_seam}
+use Rattle.std.specs.Prelude.{Result, Ok, Err}
 use Rattle.model.specs.Bytes.{Bytes}
 use Rattle.model.specs.Map.{find, is_some}
 use Rattle.model.specs.Raw.{raw_tree}
@@ -25,31 +26,19 @@ use Rattle.model.specs.Valid.{valid}
 use Rattle.model.specs.Order.{All, idle, accepted, Upsert, Perm, AllApart, Runs}
 use Rattle.model.proofs.Basics.{some_none}
 use Rattle.model.proofs.Theorems.{alike, output_20}
-use Rattle.editor_terms.specs.Answers.{code_number}
-use Rattle.editor_terms.specs.declared.code.Code.{Code}
-use Rattle.editor_terms.specs.declared.code.Code.TheVariants.{Done}
+use Rattle.editor_terms.specs.declared.refusal.Refusal.{Refusal}
 use Rattle.editor_terms.proofs.IdLaws.{sha1_wide}
-use Rattle.editor.specs.Lent.{Lent, Good, viewed, Does}
+use Rattle.editor.specs.Lent.{Lent, Good, viewed}
 use Rattle.editor.specs.declared.cursor.Cursor.{Cursor}
 use Rattle.editor.specs.Looks.{cursor_at}
-use Rattle.editor_write.specs.Requests.{Shows, shown_as, shown_number, place_in}
+use Rattle.editor_write.specs.Requests.{shown_number, place_in}
+use Rattle.editor_write.specs.declared.request.Asked.{Asked}
 use Rattle.editor_write.proofs.Theorems.{viewed_valid}
+use Rattle.theorems.specs.Public.{RequestSays}
 use Rattle.theorems.specs.Runs.{Upserts, AllDone, given, Reads, Asks, Writes}
-use Rattle.theorems.proofs.OneAnswer.{one_code}
+use Rattle.theorems.proofs.Accepted.{does_is, does_good}
+use Rattle.theorems.proofs.OneAnswer.{not_0}
 use Rattle.theorems.proofs.OneRequest.{show_none, shown_inj}
-
--- ---- what a call leaves of an editor that is held
-
--- over a store that holds an editor, the number and the editor are the model's, and the store holds that editor
-module _ (f : Model → Answer) (s : Lent) (n : ℕ) (t : Lent) (d : Does f s n t) (g : Good s) where
-  usual : n ≡ 13 → ⊥
-  usual z = (d.refused z).0 g
-
-  pub does_is : record { code = n; editor = viewed t } ≡ f (viewed s)
-  does_is = (d.done usual).1
-
-  pub does_good : Good t
-  does_good = (d.done usual).2
 
 -- ---- upserts
 
@@ -105,25 +94,23 @@ place_path p = take-append_seam p _
 
 -- what the host has from one reading
 pub reads_is : (s : Lent) (r : List Request) → Good s → Reads s r → r ≡ as_request (requested (viewed s)) []
-reads_is s r g x = x.gives ∙ go (requested (viewed s)) refl
+reads_is s r g x = x.gives ∙ go x.answer x.asked (requested (viewed s)) refl
   where
-    d : Good s × Shows (λ m. show m (viewed s)) x.code x.len x.before x.after × (x.place ≡ cursor_at (place_in (show (length x.before) (viewed s)) (requested (viewed s))))
-    d = x.asked.done (λ z. (x.asked.refused z).0 g)
+    whole : (h : Held) → requested (viewed s) ≡ some h → show (length x.before) (viewed s) ≡ shown (raw_tree h.held)
+    whole h e = output_20 sha1 (viewed s) (length x.before) h sha1_wide (viewed_valid s g) x.room e
 
-    go : (o : Option Held) → requested (viewed s) ≡ o → given x.code x.len x.place x.after ≡ as_request o []
-    go none e =
-        let n : code_number x.code ≡ 10 = d.1.number ∙ ap shown_number (show_none (length x.before) (viewed s) e) in
-        ap (λ (k : ℕ). cond (eqb k 0) ((take x.place.len x.place.prefix, take x.len x.after) ∷ []) []) n
-    go (some h) e =
-        let y : show (length x.before) (viewed s) ≡ shown (raw_tree h.held) = output_20 sha1 (viewed s) (length x.before) h sha1_wide (viewed_valid s g) x.room e in
-        let n : code_number x.code ≡ 0 = d.1.number ∙ ap shown_number y in
-        let k : x.code ≡ Done = one_code x.code Done (λ z. omega (arith, z, n)) n in
-        let raw : take x.len x.after ≡ raw_tree h.held = shown_inj (take x.len x.after) (raw_tree h.held) (ap (λ (c : Code). shown_as c x.len x.after) (sym k) ∙ d.1.is ∙ y) in
-        let p : x.place ≡ cursor_at h.path = d.2 ∙ ap (λ (z : Shown). cursor_at (place_in z (requested (viewed s)))) y ∙ ap (λ (z : Option Held). cursor_at (place_in (shown (raw_tree h.held)) z)) e in
-        ap (λ (c : Code). given c x.len x.place x.after) k
-        ∙ ap (λ (z : Bytes). (take x.place.len x.place.prefix, z) ∷ []) raw
-        ∙ ap (λ (z : Cursor). (take z.len z.prefix, raw_tree h.held) ∷ []) p
-        ∙ ap (λ (z : Bytes). (z, raw_tree h.held) ∷ []) (place_path h.path)
+    go : (a : Result Asked Refusal) → RequestSays s a x.before x.after → (o : Option Held) → requested (viewed s) ≡ o → given a x.after ≡ as_request o []
+    go (Ok asked) y none e =
+        let d = y.done (λ z. (y.refused z).0 g) in
+        absurd (omega (arith, d.1.number, ap shown_number (show_none (length x.before) (viewed s) e)))
+    go (Ok asked) y (some h) e =
+        let d = y.done (λ z. (y.refused z).0 g) in
+        let u = whole h e in
+        let raw : take asked.len x.after ≡ raw_tree h.held = shown_inj (take asked.len x.after) (raw_tree h.held) (d.1.is ∙ u) in
+        let p : asked.at ≡ cursor_at h.path = d.2 ∙ ap₂ (λ (z : Shown) (o : Option Held). cursor_at (place_in z o)) u e in
+        ap₂ (λ (z : Cursor) (b : Bytes). (take z.len z.prefix, b) ∷ []) p raw ∙ ap (λ (z : Bytes). (z, raw_tree h.held) ∷ []) (place_path h.path)
+    go (Err refusal) y none e = refl
+    go (Err refusal) y (some h) e = absurd (not_0 refusal ((y.done (λ z. (y.refused z).0 g)).1.number ∙ ap shown_number (whole h e)))
 
 no_requests : (is : List Bytes) (c : Cache) → requests sha1 is (idle c) ≡ []
 unfolding requested

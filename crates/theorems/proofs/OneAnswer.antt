@@ -5,8 +5,8 @@ use mathlib.Core.Bool.{Bool, true, false, not, cond}
 use mathlib.Core.List.{[]}
 use mathlib.Core.Option.{Option, none, some}
 use native.Mathlib.Omega.{arith}
-use borrow.Author.Tests.{eqb-true, eqb-false}
 use lib.Dec.{eqb}
+use Rattle.std.specs.Prelude.{Some, None, Result, Ok, Err, IfOk, Option as Opt}
 use Rattle.model.specs.Bytes.{Bytes}
 use Rattle.model.specs.Map.{find, is_some}
 use Rattle.model.specs.Tree.{TREE, Tree, Entry, null}
@@ -25,52 +25,64 @@ use Rattle.model.specs.Valid.{valid}
 use Rattle.model.specs.Order.{idle}
 use Rattle.model.proofs.LowNumbers.{measured_low}
 use Rattle.model.proofs.MeasureRight.{measure_code}
-use Rattle.model.specs.Lookup.{found, looked}
+use Rattle.model.specs.Lookup.{Looked, found, looked}
+use Rattle.names.specs.declared.mode.EntryKind.{EntryKind}
 use Rattle.names.proofs.AnswerLaws.{one_kind}
-use Rattle.editor_terms.specs.Answers.{code_number}
+use Rattle.editor_terms.specs.Answers.{Answer as Told, refusal_number, code_number}
 use Rattle.editor_terms.specs.Edits.{as_edit}
 use Rattle.editor_terms.specs.Ids.{id_bytes}
-use Rattle.editor_terms.specs.declared.code.Code.{Code}
-use Rattle.editor_terms.specs.declared.code.Code.TheVariants.{Done, EmptyComponent, TreeNotFound, TreeDamaged, NotALeaf, NoRoom, PathRefused, BadTable, CursorStale, WriteOpen, NoWriteOpen, OutputShort, BadRoot, StoreDamaged}
-use Rattle.editor_terms.proofs.IdLaws.{id_inj}
+use Rattle.editor_terms.specs.declared.edit.Seen.{Seen}
+use Rattle.editor_terms.specs.declared.refusal.Refusal.{Refusal}
+use Rattle.editor_terms.specs.declared.refusal.Refusal.TheVariants.{EmptyComponent, TreeNotFound, TreeDamaged, NotALeaf, NoRoom, PathRefused, BadTable, CursorStale, WriteOpen, NoWriteOpen, OutputShort, BadRoot, StoreDamaged}
 use Rattle.editor_walk.specs.Lookups.{looked_as}
-use Rattle.editor_walk.specs.declared.look.Looked.{Looked}
-use Rattle.editor_walk.specs.declared.look.Looked.TheVariants.{Found, Missing, Refused}
 use Rattle.editor.specs.Lent.{Lent, Good, viewed, Does}
-use Rattle.editor.specs.Looks.{Looks}
+use Rattle.editor.specs.Looks.{Looks, cursor_at, opened_number}
 use Rattle.editor.specs.Roots.{Makes}
 use Rattle.editor.specs.declared.cursor.Cursor.{Cursor}
 use Rattle.editor.proofs.SameAnswers.{Same, same_look, same_does, same_makes}
 use Rattle.editor.proofs.LookLaws.{refusal_of, looked_low}
 use Rattle.editor_write.proofs.Theorems.{viewed_valid}
 use Rattle.theorems.specs.Public.{Call, does, Public, new, call, Says, Opens, set_root_call, edit, cursor_at_call, begin, begin_at, answer, answer_and_request, fail}
+use Rattle.theorems.proofs.Accepted.{does_is}
 
 -- ---- the number decides the case
 
-code_of : ℕ → Code
-code_of n =
-    cond (eqb n 0) Done (cond (eqb n 1) EmptyComponent (cond (eqb n 2) TreeNotFound (cond (eqb n 3) TreeDamaged (cond (eqb n 4) NotALeaf (cond (eqb n 5) NoRoom
-    (cond (eqb n 6) PathRefused (cond (eqb n 7) BadTable (cond (eqb n 8) CursorStale (cond (eqb n 9) WriteOpen (cond (eqb n 10) NoWriteOpen (cond (eqb n 12) BadRoot StoreDamaged)))))))))))
+refusal_at : ℕ → Refusal
+refusal_at n =
+    cond (eqb n 1) EmptyComponent (cond (eqb n 2) TreeNotFound (cond (eqb n 3) TreeDamaged (cond (eqb n 4) NotALeaf (cond (eqb n 5) NoRoom (cond (eqb n 6) PathRefused
+    (cond (eqb n 7) BadTable (cond (eqb n 8) CursorStale (cond (eqb n 9) WriteOpen (cond (eqb n 10) NoWriteOpen (cond (eqb n 12) BadRoot StoreDamaged))))))))))
 
-code_back : (k : Code) → (code_number k ≡ 11 → ⊥) → code_of (code_number k) ≡ k
-unfolding code_of
-code_back Done h = refl
-code_back EmptyComponent h = refl
-code_back TreeNotFound h = refl
-code_back TreeDamaged h = refl
-code_back NotALeaf h = refl
-code_back NoRoom h = refl
-code_back PathRefused h = refl
-code_back BadTable h = refl
-code_back CursorStale h = refl
-code_back WriteOpen h = refl
-code_back NoWriteOpen h = refl
-code_back (OutputShort n) h = absurd (h refl)
-code_back BadRoot h = refl
-code_back StoreDamaged h = refl
+refusal_back : (r : Refusal) → (refusal_number r ≡ 11 → ⊥) → refusal_at (refusal_number r) ≡ r
+unfolding refusal_at
+refusal_back EmptyComponent h = refl
+refusal_back TreeNotFound h = refl
+refusal_back TreeDamaged h = refl
+refusal_back NotALeaf h = refl
+refusal_back NoRoom h = refl
+refusal_back PathRefused h = refl
+refusal_back BadTable h = refl
+refusal_back CursorStale h = refl
+refusal_back WriteOpen h = refl
+refusal_back NoWriteOpen h = refl
+refusal_back (OutputShort n) h = absurd (h refl)
+refusal_back BadRoot h = refl
+refusal_back StoreDamaged h = refl
 
-pub one_code : (k k' : Code) → (code_number k ≡ 11 → ⊥) → code_number k ≡ code_number k' → k ≡ k'
-one_code k k' h e = sym (code_back k h) ∙ ap code_of e ∙ code_back k' (λ z. h (e ∙ z))
+one_refusal : (r r' : Refusal) → (refusal_number r ≡ 11 → ⊥) → refusal_number r ≡ refusal_number r' → r ≡ r'
+one_refusal r r' h e = sym (refusal_back r h) ∙ ap refusal_at e ∙ refusal_back r' (λ z. h (e ∙ z))
+
+-- no refusal has the number of what is done
+pub not_0 : (r : Refusal) → refusal_number r ≡ 0 → ⊥
+unfolding refusal_at
+not_0 r e =
+    let z : r ≡ StoreDamaged = sym (refusal_back r (λ z. omega (arith, e, z))) ∙ ap refusal_at e in
+    omega (arith, e, ap refusal_number z)
+
+one_code : (k k' : Told) → (code_number k ≡ 11 → ⊥) → code_number k ≡ code_number k' → k ≡ k'
+one_code (Ok d) (Ok d') h e = refl
+one_code (Ok d) (Err r') h e = absurd (not_0 r' (sym e))
+one_code (Err r) (Ok d') h e = absurd (not_0 r e)
+one_code (Err r) (Err r') h e = ap Err (one_refusal r r' h e)
 
 -- ---- no call that changes a store gives 11
 
@@ -142,22 +154,22 @@ failed_of c (some w) = λ z. omega (arith, z)
 -- ---- calls that change a store
 
 -- two answers are the same: the case, with the number; the editor; what lies behind the fronts; and each byte where the number says that nothing has changed
-pub record One (k : Code) (q : Lent) (k' : Code) (q' : Lent) : Type 0 where
+pub record One (k : Told) (q : Lent) (k' : Told) (q' : Lent) : Type 0 where
   pub code : k ≡ k'
   pub store : Same (code_number k) q (code_number k') q'
 
+does_not : (f : Model → Answer) → ((E : Model) → valid sha1 E ≡ true → Not11 (f E)) → (s : Lent) (c : ℕ) (q : Lent) → Does f s c q → c ≡ 11 → ⊥
+does_not f h s c q d e =
+    let m = d.done (λ y. omega (arith, e, y)) in
+    h (viewed s) (viewed_valid s m.0) (ap (λ (a : Answer). a.code) (sym m.1) ∙ e)
+
 does_one : (f : Model → Answer) → ((E : Model) → valid sha1 E ≡ true → Not11 (f E)) →
-    (s : Lent) (k k' : Code) (q q' : Lent) → Does f s (code_number k) q → Does f s (code_number k') q' → One k q k' q'
+    (s : Lent) (k k' : Told) (q q' : Lent) → Does f s (code_number k) q → Does f s (code_number k') q' → One k q k' q'
 does_one f h s k k' q q' d d' =
     let z : Same (code_number k) q (code_number k') q' = same_does f s (code_number k) (code_number k') q q' d d' in
-    record { code = one_code k k' not_11 z.number; store = z }
-  where
-    not_11 : code_number k ≡ 11 → ⊥
-    not_11 e =
-        let m = d.done (λ y. omega (arith, e, y)) in
-        h (viewed s) (viewed_valid s m.0) (ap (λ (a : Answer). a.code) (sym m.1) ∙ e)
+    record { code = one_code k k' (does_not f h s (code_number k) q d) z.number; store = z }
 
-makes_one : (raw : Bytes) (s : Lent) (k k' : Code) (q q' : Lent) → Makes raw s (code_number k) q → Makes raw s (code_number k') q' → One k q k' q'
+makes_one : (raw : Bytes) (s : Lent) (k k' : Told) (q q' : Lent) → Makes raw s (code_number k) q → Makes raw s (code_number k') q' → One k q k' q'
 makes_one raw s k k' q q' d d' =
     let z : Same (code_number k) q (code_number k') q' = same_makes raw s (code_number k) (code_number k') q q' d d' in
     record { code = one_code k k' not_11 z.number; store = z }
@@ -182,44 +194,51 @@ not_11 (answer_and_request id) E v = answered_of (id_bytes id) E.cached E.writin
 not_11 fail E v = failed_of E.cached E.writing
 
 -- the theorem, for each of the calls
-pub one_answer : (x : Public) (s : Lent) (k k' : Code) (q q' : Lent) → Says x s (code_number k) q → Says x s (code_number k') q' → One k q k' q'
+pub one_answer : (x : Public) (s : Lent) (k k' : Told) (q q' : Lent) → Says x s (code_number k) q → Says x s (code_number k') q' → One k q k' q'
 one_answer (new raw) = makes_one raw
 one_answer (call x) = does_one (does x) (not_11 x)
 
+one_opened : (path : Bytes) (r r' : Result Cursor Refusal) → (opened_number r ≡ 11 → ⊥) → opened_number r ≡ opened_number r' →
+    IfOk r (λ c. c ≡ cursor_at path) → IfOk r' (λ c. c ≡ cursor_at path) → r ≡ r'
+one_opened path (Ok c) (Ok c') h e t t' = ap Ok (t ∙ sym t')
+one_opened path (Ok c) (Err x') h e t t' = absurd (not_0 x' (sym e))
+one_opened path (Err x) (Ok c') h e t t' = absurd (not_0 x e)
+one_opened path (Err x) (Err x') h e t t' = ap Err (one_refusal x x' h e)
+
 -- and the cursors of an opening are equal, every byte
-pub one_opening : (T : Table) (path : Bytes) (s : Lent) (k k' : Code) (q q' : Lent) (c c' : Cursor) → Opens T path s k q c → Opens T path s k' q' c' → One k q k' q' × (c ≡ c')
-one_opening T path s k k' q q' c c' o o' = (z, go (eqb (code_number k) 0) refl)
-  where
-    z : One k q k' q'
-    z = one_answer (call (cursor_at_call T path)) s k k' q q' o.store o'.store
-
-    n : code_number k ≡ code_number k'
-    n = z.store.number
-
-    go : (b : Bool) → eqb (code_number k) 0 ≡ b → c ≡ c'
-    go true e = o.there (eqb-true (code_number k) 0 e) ∙ sym (o'.there (sym n ∙ eqb-true (code_number k) 0 e))
-    go false e = o.root (eqb-false (code_number k) 0 e) ∙ sym (o'.root (λ y. eqb-false (code_number k) 0 e (n ∙ y)))
+pub one_opening : (T : Table) (path : Bytes) (s : Lent) (r r' : Result Cursor Refusal) (q q' : Lent) → Opens T path s r q → Opens T path s r' q' →
+    (r ≡ r') × Same (opened_number r) q (opened_number r') q'
+one_opening T path s r r' q q' o o' =
+    let z : Same (opened_number r) q (opened_number r') q' = same_does (opened sha1 T path) s (opened_number r) (opened_number r') q q' o.store o'.store in
+    (one_opened path r r' (does_not (opened sha1 T path) (opened_not T path) s (opened_number r) q o.store) z.number o.there o'.there, z)
 
 -- ---- lookups
 
 found_inj : {d e : Entry} → found d ≡ found e → d ≡ e
 found_inj h = cc
 
-one_looked : (n : Bytes) (r r' : Looked) → (refusal_of (looked_as n r) ≡ 11 → ⊥) → looked_as n r ≡ looked_as n r' → r ≡ r'
-one_looked n (Found k i) (Found k' i') l e =
+one_looked : (n : Bytes) (r r' : Result (Opt Seen) Refusal) → (refusal_of (looked_as n r) ≡ 11 → ⊥) → looked_as n r ≡ looked_as n r' → r ≡ r'
+one_looked n (Ok (Some s)) (Ok (Some s')) l e =
     let z = found_inj e in
-    ap₂ Found (one_kind k k' (ap (λ (x : Entry). x.mode) z)) (id_inj i i' (ap (λ (x : Entry). x.id) z))
-one_looked n (Found k i) Missing l e = absurd (let z : ◌≡◌ {A = ℕ} 0 1 = cc in omega arith)
-one_looked n (Found k i) (Refused c) l e = absurd (let z : ◌≡◌ {A = ℕ} 0 1 = cc in omega arith)
-one_looked n Missing (Found k i) l e = absurd (let z : ◌≡◌ {A = ℕ} 0 1 = cc in omega arith)
-one_looked n Missing Missing l e = refl
-one_looked n Missing (Refused c) l e = absurd (let z : ◌≡◌ {A = ℕ} 0 1 = cc in omega arith)
-one_looked n (Refused c) (Found k i) l e = absurd (let z : ◌≡◌ {A = ℕ} 0 1 = cc in omega arith)
-one_looked n (Refused c) Missing l e = absurd (let z : ◌≡◌ {A = ℕ} 0 1 = cc in omega arith)
-one_looked n (Refused c) (Refused c') l e = ap Refused (one_code c c' l (ap refusal_of e))
+    ap₂ (λ (k : EntryKind) (i : Bytes). Ok (Some (record { kind = k; id = record { bytes = i } })))
+    (one_kind s.kind s'.kind (ap (λ (x : Entry). x.mode) z))
+    (ap (λ (x : Entry). x.id) z)
+one_looked n (Ok (Some s)) (Ok None) l e = absurd (let z : ◌≡◌ {A = ℕ} 0 1 = cc in omega arith)
+one_looked n (Ok (Some s)) (Err x) l e = absurd (let z : ◌≡◌ {A = ℕ} 0 1 = cc in omega arith)
+one_looked n (Ok None) (Ok (Some s)) l e = absurd (let z : ◌≡◌ {A = ℕ} 0 1 = cc in omega arith)
+one_looked n (Ok None) (Ok None) l e = refl
+one_looked n (Ok None) (Err x) l e = absurd (let z : ◌≡◌ {A = ℕ} 0 1 = cc in omega arith)
+one_looked n (Err x) (Ok (Some s)) l e = absurd (let z : ◌≡◌ {A = ℕ} 0 1 = cc in omega arith)
+one_looked n (Err x) (Ok None) l e = absurd (let z : ◌≡◌ {A = ℕ} 0 1 = cc in omega arith)
+one_looked n (Err x) (Err x') l e = ap Err (one_refusal x x' l (ap refusal_of e))
+
+-- over a store that holds an editor a lookup is the model's
+pub looks_is : (prefix path : Bytes) (s : Lent) (r : Looked) → Looks prefix path s r → Good s → r ≡ looked prefix path (viewed s)
+looks_is prefix path s r l g = (l.answered (λ z. l.refused z g)).1
 
 -- two answers of `look::get` are equal
-pub one_lookup : (prefix path : Bytes) (s : Lent) (r r' : Looked) → Looks prefix path s (looked_as (base path) r) → Looks prefix path s (looked_as (base path) r') → r ≡ r'
+pub one_lookup : (prefix path : Bytes) (s : Lent) (r r' : Result (Opt Seen) Refusal) →
+    Looks prefix path s (looked_as (base path) r) → Looks prefix path s (looked_as (base path) r') → r ≡ r'
 one_lookup prefix path s r r' l l' = one_looked (base path) r r' not_11 (same_look prefix path s (looked_as (base path) r) (looked_as (base path) r') l l')
   where
     not_11 : refusal_of (looked_as (base path) r) ≡ 11 → ⊥
@@ -230,19 +249,19 @@ one_lookup prefix path s r r' l l' = one_looked (base path) r r' not_11 (same_lo
 -- ---- spare bytes and slot numbers do not show
 
 -- over two stores that hold one editor a call answers the same number and leaves the same editor
-pub spare_unread : (x : Call) (s s' : Lent) (k k' : Code) (q q' : Lent) → Good s → Good s' → viewed s ≡ viewed s' →
+pub spare_unread : (x : Call) (s s' : Lent) (k k' : Told) (q q' : Lent) → Good s → Good s' → viewed s ≡ viewed s' →
     Says (call x) s (code_number k) q → Says (call x) s' (code_number k') q' → (k ≡ k') × (viewed q ≡ viewed q')
 spare_unread x s s' k k' q q' g g' v d d' =
-    let m = (d.done (λ z. (d.refused z).0 g)).1 in
-    let m' = (d'.done (λ z. (d'.refused z).0 g')).1 in
+    let m = does_is (does x) s (code_number k) q d g in
+    let m' = does_is (does x) s' (code_number k') q' d' g' in
     let z : ◌≡◌ {A = Answer} (record { code = code_number k; editor = viewed q }) (record { code = code_number k'; editor = viewed q' }) = m ∙ ap (does x) v ∙ sym m' in
     let h : code_number k ≡ 11 → ⊥ = λ e. not_11 x (viewed s) (viewed_valid s g) (ap (λ (a : Answer). a.code) (sym m) ∙ e) in
     (one_code k k' h (ap (λ (a : Answer). a.code) z), ap (λ (a : Answer). a.editor) z)
 
 -- a lookup gives the same
-pub spare_unread_lookup : (prefix path : Bytes) (s s' : Lent) (r r' : Looked) → Good s → Good s' → viewed s ≡ viewed s' →
+pub spare_unread_lookup : (prefix path : Bytes) (s s' : Lent) (r r' : Result (Opt Seen) Refusal) → Good s → Good s' → viewed s ≡ viewed s' →
     Looks prefix path s (looked_as (base path) r) → Looks prefix path s' (looked_as (base path) r') → r ≡ r'
 spare_unread_lookup prefix path s s' r r' g g' v l l' =
-    let m = (l.answered (λ z. l.refused z g)).1 in
-    let m' = (l'.answered (λ z. l'.refused z g')).1 in
+    let m = looks_is prefix path s (looked_as (base path) r) l g in
+    let m' = looks_is prefix path s' (looked_as (base path) r') l' g' in
     one_looked (base path) r r' (λ e. omega (arith, e, ap refusal_of m, looked_low prefix path (viewed s))) (m ∙ ap (looked prefix path) v ∙ sym m')

@@ -1,11 +1,11 @@
 -- What the statements of the public calls promise, taken together: the index. Each statement stands whole in the file that its line names, in the words of specs/ and of the contracts. Assumes nothing.
 -- I. Any two answers are equal: of the calls that change a store (`one_answer`, over the list of them in specs/Public.antt), with the cursor of an opening
--- (`one-opening`); of lookups (`one-lookup`); of the request, with the output and where the tree belongs (`same-request`), also
+-- (`one-opening`); of lookups (`one-lookup`); of the request, with the output and where the tree belongs (`one-request`, by `same-request`), also
 -- where an answer reads it (`one-next`). What two answers may differ in is listed in docs/EXCEPTIONS.md; no number of the record but the slots' is among it
 -- (`same_numbers`), and it shows in no later answer (`spare-unread` and the three like it)
 pub use Rattle.theorems.proofs.OneAnswer.{one_answer, one_opening, one_lookup, spare_unread, spare_unread_lookup}
 pub use Rattle.editor_write.proofs.SameAnswers.{same_request}
-pub use Rattle.theorems.proofs.OneRequest.{spare_unread_request}
+pub use Rattle.theorems.proofs.OneRequest.{one_request, spare_unread_request}
 pub use Rattle.theorems.proofs.OneNext.{one_next, spare_unread_next}
 pub use Rattle.theorems.proofs.SameCounts.{same_numbers}
 -- II. Order, for upserts by the public call, with paths that are valid and apart, over stores that hold an editor with no write open: if one order is answered DONE

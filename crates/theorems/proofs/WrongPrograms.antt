@@ -5,6 +5,7 @@ use mathlib.Core.List.{List, [], ◌∷◌, map}
 use mathlib.Core.Option.{Option, none, some}
 use native.Mathlib.Omega.{arith}
 use lib.ListN.{length, replicate}
+use Rattle.std.specs.Prelude.{Result}
 use Rattle.model.specs.Tree.{is_tree, null, good_name, well_formed, Entry}
 use Rattle.model.specs.Raw.{octal, mode_of, raw_entry, raw_tree, name_from, got, ended as atEnd, read_tree}
 use Rattle.model.specs.Paths.{refused, valid_path}
@@ -22,25 +23,25 @@ use Rattle.model.specs.Script.{no#, file, folder}
 use Rattle.model.specs.Order.{idle}
 use Rattle.model.proofs.Basics.{some_none}
 use Rattle.model.proofs.Theorems.{output_short}
-use Rattle.editor_terms.specs.Answers.{code_number}
-use Rattle.editor_terms.specs.Ids.{word_bytes, id_bytes}
-use Rattle.editor_terms.specs.declared.code.Code.{Code}
+use Rattle.editor_terms.specs.Answers.{Answer as Told, code_number}
+use Rattle.editor_terms.specs.declared.refusal.Refusal.{Refusal}
 use Rattle.editor.specs.Lent.{Lent, Long, Good, viewed, Does}
 use Rattle.editor.specs.Looks.{Looks}
 use Rattle.editor.specs.Roots.{Roots}
-use Rattle.editor.specs.declared.cursor.Cursor.{Cursor}
-use Rattle.editor_write.specs.Requests.{shown_number}
+use Rattle.editor_write.specs.Requests.{answer_of, shown_number}
+use Rattle.editor_write.specs.declared.request.Asked.{Asked}
 use Rattle.theorems.specs.Examples.{a, first, put_a, put_ab, script, refusals}
 use Rattle.theorems.specs.Public.{Call, does, new, call, Says, Made, Proceeds, begin, answer}
 use Rattle.theorems.specs.Runs.{given}
-use Rattle.theorems.proofs.Accepted.{all_accepted}
+use Rattle.theorems.proofs.Accepted.{does_is, does_good, all_accepted}
+use Rattle.theorems.proofs.OneAnswer.{looks_is}
 use Rattle.theorems.proofs.AnyOrder.{reads_is}
 
 -- the definitions that the computing looks through
 computing : Unit {0}
 unfolding is_tree null good_name well_formed octal mode_of raw_entry name_from got atEnd read_tree refused valid_path good_table looked_up start_path fits sha1
     through to_remove removed at_last at_earlier turn load enter ended stepped below turned refuse_if settled edited opened root_only rooted set_root look_on looked
-    unlinked linked finished taken no_tree asking write_of begun_at begun closed answered_in answered failed requested word_bytes id_bytes
+    unlinked linked finished taken no_tree asking write_of begun_at begun closed answered_in answered failed requested
 computing = tt
 
 empty_root : (E : Model) → rooted E (read_tree 20 []) ≡ record { code = 0; editor = root_only [] }
@@ -50,9 +51,7 @@ empty_root E = refl
 -- ---- over a store that holds an editor a call does what the model does
 
 does_model : (x : Call) (s : Lent) (c : ℕ) (q : Lent) → Good s → Does (does x) s c q → (record { code = c; editor = viewed q } ≡ does x (viewed s)) × Good q
-does_model x s c q g d =
-    let m = d.done (λ z. (d.refused z).0 g) in
-    (m.1, m.2)
+does_model x s c q g d = (does_is (does x) s c q d g, does_good (does x) s c q d g)
 
 -- the numbers of calls made one after the other on an editor, and the editor at the end
 abbrev numbers : List Call → Model → List ℕ
@@ -151,8 +150,8 @@ module _ (s q : Lent) (c : ℕ) (g : Good s) (v : viewed s ≡ root_only []) (d 
   pub no_fixed_lookup : (r : Looked) → Looks [] a s r → Looks [] a q r → ⊥
   no_fixed_lookup r l l' =
       let h : Good q = (does_model put_a s c q g d).1 in
-      let x : r ≡ missing = (l.answered (λ z. l.refused z g)).1 ∙ ap (looked [] a) v ∙ nothing in
-      let y : r ≡ found (file a) = (l'.answered (λ z. l'.refused z h)).1 ∙ ap (looked [] a) after_a.1 ∙ something in
+      let x : r ≡ missing = looks_is [] a s r l g ∙ ap (looked [] a) v ∙ nothing in
+      let y : r ≡ found (file a) = looks_is [] a q r l' h ∙ ap (looked [] a) after_a.1 ∙ something in
       missing_found (file a) (sym x ∙ y)
 
 -- ---- a write that requests one tree and only pretends the rest
@@ -209,7 +208,7 @@ no_pretender s t q ns c g v m d = (ap requested (at_a s t ns g v m) ∙ asks_a, 
 -- ---- an answer that reads the next request, but not the next one, or that is not made where there is no room to read
 
 module _ (s t q : Lent) (ns : List ℕ) (g : Good s) (v : viewed s ≡ root_only []) (made : Made (map call (put_ab ∷ begin ∷ [])) ns s t)
-    (k m : Code) (n : ℕ) (p : Cursor) (before after : Bytes) (x : Proceeds first t k q m n p before after) where
+    (k : Told) (next : Result Asked Refusal) (before after : Bytes) (x : Proceeds first t k q next before after) where
   left : ◌≡◌ {A = Answer} (record { code = code_number k; editor = viewed q }) (record { code = 0; editor = open_at_root })
   left = (at_root s t ns g v made (code_number k) q x.store).0
 
@@ -220,13 +219,13 @@ module _ (s t q : Lent) (ns : List ℕ) (g : Good s) (v : viewed s ≡ root_only
   asks = ap (λ (y : Answer). requested y.editor) left ∙ asks_root
 
   -- the answer to `a` reads the root with that answer, and not `a` again
-  pub no_repeater : 45056 ≤ length before → given m n p after ≡ ([], raw_tree (folder a (no# 1) ∷ [])) ∷ []
+  pub no_repeater : 45056 ≤ length before → given next after ≡ ([], raw_tree (folder a (no# 1) ∷ [])) ∷ []
   no_repeater l =
-      reads_is q (given m n p after) good (record { code = m; len = n; place = p; before = before; after = after; room = l; asked = x.request; gives = refl })
+      reads_is q (given next after) good (record { answer = next; before = before; after = after; room = l; asked = x.request; gives = refl })
       ∙ ap (λ (o : Option Held). as_request o []) asks
 
   -- it is made where the output is empty too: the root is requested, with 11
-  pub no_skipper : length before ≡ 0 → (code_number k ≡ 0) × (code_number m ≡ 11) × (requested (viewed q) ≡ some ([] ↝ (folder a (no# 1) ∷ [])))
+  pub no_skipper : length before ≡ 0 → (code_number k ≡ 0) × (code_number (answer_of next) ≡ 11) × (requested (viewed q) ≡ some ([] ↝ (folder a (no# 1) ∷ [])))
   no_skipper l =
       let u = output_short (viewed q) (length before) ([] ↝ (folder a (no# 1) ∷ [])) asks (omega (arith, l, root_long)) in
       (ap (λ (y : Answer). y.code) left, (x.request.done (λ z. (x.request.refused z).0 good)).1.number ∙ ap shown_number u, asks)

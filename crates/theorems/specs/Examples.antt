@@ -1,7 +1,7 @@
 -- Calls on small editors, by which programs of no use are told from those that are meant. Assumes nothing.
-use Rattle.std.specs.Prelude.{false, List, [], ◌∷◌}
+use Rattle.std.specs.Prelude.{false, List, [], ◌∷◌, replicate}
 use Rattle.model.specs.Bytes.{Bytes}
-use Rattle.model.specs.Script.{no_table}
+use Rattle.model.specs.Script.{no#, no_table}
 use Rattle.model.specs.Table.{Table}
 use Rattle.names.specs.declared.mode.EntryKind.TheVariants.{Blob}
 use Rattle.editor_terms.specs.declared.edit.Edit.TheVariants.{Remove, Upsert}
@@ -12,10 +12,10 @@ use Rattle.theorems.specs.Public.{Call, set_root_call, edit, cursor_at_call, beg
 
 -- the id of twenty bytes 17, and of 19 zeros and a one
 abbrev pub seventeen : Id
-seventeen = record { a = 286331153; b = 286331153; c = 286331153; d = 286331153; e = 286331153 }
+seventeen = record { bytes = replicate 20 17 }
 
 abbrev pub first : Id
-first = record { a = 0; b = 0; c = 0; d = 0; e = 1 }
+first = record { bytes = no# 1 }
 
 -- a file at `a`, and one at `a/b`; a removal
 abbrev pub a : Bytes

@@ -1,5 +1,5 @@
 -- The public calls that change a store, each with what it is given, and what its contract says of it, in the contract's words. Assumes nothing.
-use Rattle.std.specs.Prelude.{ℕ, ◌≡◌, Bool, List, [], ◌∷◌}
+use Rattle.std.specs.Prelude.{ℕ, ◌≡◌, Bool, List, [], ◌∷◌, Result, IfOk}
 use Rattle.model.specs.Bytes.{Bytes}
 use Rattle.model.specs.Table.{Table}
 use Rattle.model.specs.Editor.{from_root, from_cursor}
@@ -7,17 +7,18 @@ use Rattle.model.specs.Editor.{Editor as Model}
 use Rattle.model.specs.Formats.{sha1}
 use Rattle.model.specs.Calls as model
 use Rattle.model.specs.Write as write
-use Rattle.editor_terms.specs.Answers.{code_number}
+use Rattle.editor_terms.specs.Answers.{Answer, code_number}
 use Rattle.editor_terms.specs.Edits.{as_edit}
 use Rattle.editor_terms.specs.Ids.{id_bytes}
-use Rattle.editor_terms.specs.declared.code.Code.{Code}
 use Rattle.editor_terms.specs.declared.edit.Edit.{Edit}
 use Rattle.editor_terms.specs.declared.id.Id.{Id}
+use Rattle.editor_terms.specs.declared.refusal.Refusal.{Refusal}
 use Rattle.editor.specs.Lent.{Lent, Does}
-use Rattle.editor.specs.Looks.{cursor_at}
+use Rattle.editor.specs.Looks.{cursor_at, opened_number}
 use Rattle.editor.specs.Roots.{Makes}
 use Rattle.editor.specs.declared.cursor.Cursor.{Cursor}
-use Rattle.editor_write.specs.Requests.{Requests}
+use Rattle.editor_write.specs.Requests.{answer_of, len_of, place_of, Requests}
+use Rattle.editor_write.specs.declared.request.Asked.{Asked}
 
 -- `editor`: root::set_root; edit::edit, with the edit, whether it opens a cursor, the prefix and the path; cursor::cursor_at;
 -- `editor_write`: begin::begin, begin::begin_at; answer::answer; next::answer_and_request; fail::fail
@@ -58,13 +59,16 @@ Made [] (n ∷ ns) s q = ⊥
 Made (x ∷ xs) [] s q = ⊥
 Made (x ∷ xs) (n ∷ ns) s q = (t : Lent) × Says x s n t × Made xs ns t q
 
--- the opening of a cursor gives the cursor too: at the path where it is done, at the root where it is not
-pub record Opens (T : Table) (path : Bytes) (s : Lent) (k : Code) (q : Lent) (cursor : Cursor) : Type 0 where
-  pub store : Does (model.opened sha1 T path) s (code_number k) q
-  pub there : code_number k ≡ 0 → cursor ≡ cursor_at path
-  pub root : (code_number k ≡ 0 → ⊥) → cursor ≡ cursor_at []
+-- the opening of a cursor gives the cursor too where it is done, at the path
+pub record Opens (T : Table) (path : Bytes) (s : Lent) (r : Result Cursor Refusal) (q : Lent) : Type 0 where
+  pub store : Does (model.opened sha1 T path) s (opened_number r) q
+  pub there : IfOk r (λ c. c ≡ cursor_at path)
+
+-- reading the request of a store, into an output that was `before` and is `after`
+abbrev pub RequestSays : Lent → Result Asked Refusal → Bytes → Bytes → Type 0
+RequestSays s r before after = Requests s (answer_of r) (len_of r) (place_of r) before after
 
 -- an answer that reads the next request gives that too: it is the request of the store that the answer leaves
-pub record Proceeds (id : Id) (s : Lent) (k : Code) (q : Lent) (next : Code) (n : ℕ) (place : Cursor) (before after : Bytes) : Type 0 where
+pub record Proceeds (id : Id) (s : Lent) (k : Answer) (q : Lent) (next : Result Asked Refusal) (before after : Bytes) : Type 0 where
   pub store : Does (write.answered sha1 (id_bytes id)) s (code_number k) q
-  pub request : Requests q next n place before after
+  pub request : RequestSays q next before after

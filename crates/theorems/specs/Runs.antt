@@ -1,5 +1,5 @@
 -- Runs of the public calls: a list of upserts, and a write. Assumes nothing.
-use Rattle.std.specs.Prelude.{ℕ, ◌≤◌, ◌≡◌, false, cond, List, [], ◌∷◌, ◌++◌, eqb, length, take}
+use Rattle.std.specs.Prelude.{ℕ, ◌≤◌, ◌≡◌, false, List, [], ◌∷◌, ◌++◌, length, take, Result, Ok, Err}
 use Rattle.model.specs.Bytes.{Bytes}
 use Rattle.model.specs.Table.{Table}
 use Rattle.model.specs.Editor.{Start}
@@ -9,13 +9,12 @@ use Rattle.model.specs.Calls.{edited}
 use Rattle.model.specs.Write.{begun, answered}
 use Rattle.model.specs.Written.{Request}
 use Rattle.model.specs.Order.{All, Upsert}
-use Rattle.editor_terms.specs.Answers.{code_number}
-use Rattle.editor_terms.specs.declared.code.Code.{Code}
+use Rattle.editor_terms.specs.Answers.{Answer}
 use Rattle.editor_terms.specs.declared.id.Id.{Id}
+use Rattle.editor_terms.specs.declared.refusal.Refusal.{Refusal}
 use Rattle.editor.specs.Lent.{Lent, Does}
-use Rattle.editor.specs.declared.cursor.Cursor.{Cursor}
-use Rattle.editor_write.specs.Requests.{Requests}
-use Rattle.theorems.specs.Public.{Proceeds}
+use Rattle.editor_write.specs.declared.request.Asked.{Asked}
+use Rattle.theorems.specs.Public.{RequestSays, Proceeds}
 
 -- upserts with one table, made one after the other by the public call (its kind and id are the model's mode and bytes: `as_mode kind`, `idBytes id`), and the numbers
 -- that it answered
@@ -29,19 +28,18 @@ abbrev pub AllDone : List ℕ → Type 0
 AllDone ns = All (λ n. n ≡ 0) ns
 
 -- what the host has from the call `request`: the path and the raw tree where it is done, nothing where it is not
-abbrev pub given : Code → ℕ → Cursor → Bytes → List Request
-given code len place out = cond (eqb (code_number code) 0) ((take place.len place.prefix, take len out) ∷ []) []
+abbrev pub given : Result Asked Refusal → Bytes → List Request
+given (Ok asked) out = (take asked.at.len asked.at.prefix, take asked.len out) ∷ []
+given (Err refusal) out = []
 
 -- the host reads the request of the store s, into an output of its own with room for the largest raw tree, and has r from it
 pub record Reads (s : Lent) (r : List Request) : Type 0 where
-  pub code : Code
-  pub len : ℕ
-  pub place : Cursor
+  pub answer : Result Asked Refusal
   pub before : Bytes
   pub after : Bytes
   pub room : 45056 ≤ length before
-  pub asked : Requests s code len place before after
-  pub gives : r ≡ given code len place after
+  pub asked : RequestSays s answer before after
+  pub gives : r ≡ given answer after
 
 -- the host reads and answers, with these ids one after the other, and reads once more; these are the requests that it has
 abbrev pub Asks : List Bytes → Lent → List Request → Type 0
@@ -50,9 +48,9 @@ Asks (i ∷ is) s rs = (r : List Request) × Reads s r × (c : ℕ) × (t : Lent
 
 -- the host answers the request of the store s by the call that reads the next one too, which leaves the store t, and has r from it
 pub record Goes (id : Id) (s t : Lent) (r : List Request) : Type 0 where
-  pub code : Code
+  pub answer : Answer
   pub reads : Reads t r
-  pub made : Proceeds id s code t reads.code reads.len reads.place reads.before reads.after
+  pub made : Proceeds id s answer t reads.answer reads.before reads.after
 
 -- it does so with these ids one after the other; these are the requests that it has
 abbrev pub Nexts : List Id → Lent → List Request → Type 0
