@@ -19,7 +19,7 @@ use Rattle.store_runs.specs.Runs.{cut}
 use Rattle.store_slots.specs.declared.Record.{Record}
 use Rattle.store_slots.specs.declared.Store.{Store}
 use Rattle.store_slots.specs.View.{SameWrite}
-use Rattle.store_slots.specs.Stores.{LaidIn, view_in}
+use Rattle.store_slots.specs.Stores.{LaidIn, SameLent, view_in}
 use Rattle.editor_terms.specs.Answers.{Answer, code_number}
 use Rattle.std.specs.declared.ops.ControlFlow.{ControlFlow}
 use Rattle.std.specs.declared.ops.ControlFlow.TheVariants.{Continue, Break}
@@ -35,6 +35,9 @@ same_write r = record { «open» = refl; aside = refl; stacked = refl; asked = r
 
 pub write_twice : {r q s : Record} → SameWrite r q → SameWrite q s → SameWrite r s
 write_twice a b = record { «open» = b.«open» ∙ a.«open»; aside = b.aside ∙ a.aside; stacked = b.stacked ∙ a.stacked; asked = b.asked ∙ a.asked }
+
+pub lent_twice : {s t u : Store} → SameLent s t → SameLent t u → SameLent s u
+lent_twice a b = record { plens = b.plens ∙ a.plens; paths = b.paths ∙ a.paths; tlens = b.tlens ∙ a.tlens; trees = b.trees ∙ a.trees }
 
 -- going down, by what was found
 module _ (s : Store) (q : Bytes) (x : Landing) (f : LandFits s q x) where

@@ -31,6 +31,10 @@ use Rattle.store_runs.specs.Runs.{cut, run_of}
 use Rattle.store_runs.proofs.RunLaws.{length_cut}
 use Rattle.store_slots.specs.declared.Record.{Record}
 use Rattle.store_slots.specs.View.{slots_of, gather, view_of, Laid, Used, path_of, tree_of}
+use Rattle.store_slots.specs.declared.View.{View}
+use Rattle.store_slots.specs.Stores.{LaidSeen}
+use Rattle.store_slots.specs.View.{cached_of}
+use Rattle.store_slots.proofs.Cached.{cached_view}
 use Rattle.store_slots.proofs.Relaid.{find_slot}
 use Rattle.store_slots.proofs.Changes.{searched_run}
 use Rattle.model.proofs.SoundTrees.{sound_well}
@@ -55,6 +59,9 @@ use Rattle.editor_walk.specs.declared.land.Landing.TheVariants.{There, Fresh, Lo
 use Rattle.editor_walk.specs.declared.measure.Level.{Level}
 use Rattle.editor_walk.specs.declared.measure.Level.TheVariants.{Slot, Raw, Empty}
 use Rattle.editor_walk.specs.declared.measure.Stage.{Stage}
+use Rattle.editor_walk.specs.Levels.{step_for}
+use Rattle.editor_walk.specs.Tasks.{edit_for, measure_for, path_seen, table_for, view_seen}
+use Rattle.editor_walk.specs.declared.task.Task.{Task}
 use Rattle.editor_walk.proofs.ComponentLaws.{components_some, rest_of, rest_nil, not_last, pieces_are}
 use Rattle.editor_walk.proofs.CountLaws.{counts_view, counts_room, many_entries, many_names}
 use Rattle.editor_walk.proofs.LandLaws.{landing_there, landing_new}
@@ -256,69 +263,73 @@ pub stands_as : (tlens trees : List ℕ) (t : Tree) {l m : Level} → l ≡ m �
 stands_as tlens trees t e h = subst (λ (z : Level). Stands tlens trees z t) e h
 
 -- the loop
-pub record Measuring (T : Table) (e : walk.Edit) (opening : Bool) (c : Cache) (tlens trees : List ℕ) (whole : Bytes) (goal : Measured) (p : Bytes) (level : Level) (u : Counts) : Type 0 where
+abbrev measured_for : Task → List Bytes → Bytes → Tree → Cache → Counts → Measured
+measured_for task = measured sha1 (table_for task) (edit_for task) task.opening
+
+pub record Measuring (task : Task) (v : View) (whole : Bytes) (goal : Measured) (p : Bytes) (stage : Stage) : Type 0 where
   pub tree : Tree
-  pub stands : Stands tlens trees level tree
-  pub room : within u ≡ true
+  pub stands : Stands v.tlens.now v.trees.now stage.level tree
+  pub room : within (counts_as stage.counts) ≡ true
   pub so_far : Bytes
   pub front : Front whole so_far p
-  pub rest : goal ≡ measured sha1 T e opening (pieces p) so_far tree c u
+  pub rest : goal ≡ measured_for task (pieces p) so_far tree (view_seen v) (counts_as stage.counts)
 
-pub measure_empty : (T : Table) (e : walk.Edit) (opening : Bool) (q path : Bytes) (c : Cache) → length path ≡ 0 → {a : Answer} → code_number a ≡ 0 → MeasuredAs (measure sha1 T e opening q path c) (Ok a)
-measure_empty T e opening q [] c z i = record { says = (over_kept 0, i ∙ sym (over_code 0)) }
-measure_empty T e opening q (b ∷ bs) c z i = absurd (omega (arith, z))
+pub measure_empty : (task : Task) (q path : Bytes) (c : Cache) → length path ≡ 0 → {a : Answer} → code_number a ≡ 0 → MeasuredAs (measure_for task q path c) (Ok a)
+measure_empty task q [] c z i = record { says = (over_kept 0, i ∙ sym (over_code 0)) }
+measure_empty task q (b ∷ bs) c z i = absurd (omega (arith, z))
 
-pub measure_begin : (T : Table) (e : walk.Edit) (opening : Bool) (r : Record) (plens paths tlens trees : List ℕ) (whole path : Bytes) (slot : ℕ) → Laid 20 r plens paths tlens trees →
-    editor.fits (view_of 20 r plens paths tlens trees) ≡ true → Used r slot → whole ≡ full (path_of plens paths slot) path → (length path ≡ 0 → ⊥) → (u : Counts) → u ≡ record_counts r →
-    Measuring T e opening (view_of 20 r plens paths tlens trees) tlens trees whole (measure sha1 T e opening (path_of plens paths slot) path (view_of 20 r plens paths tlens trees)) path (Slot slot) u
-measure_begin T e opening r plens paths tlens trees whole path slot L f U ew n u eu =
+pub measure_begin : (task : Task) (v : View) (whole path : Bytes) (slot : ℕ) → LaidSeen 20 v → editor.fits (view_seen v) ≡ true → Used v.ed slot → whole ≡ full (path_seen v slot) path → (length path ≡ 0 → ⊥) →
+    (u : CodeCounts) → counts_as u ≡ record_counts v.ed → Measuring task v whole (measure_for task (path_seen v slot) path (view_seen v)) path (record { level = Slot slot; counts = u })
+measure_begin task v whole path slot L f U ew n u eu =
     record {
-      tree = tree_of 20 tlens trees slot;
+      tree = tree_of 20 v.tlens.now v.trees.now slot;
       stands = (U.low, refl);
-      room = ap within eu ∙ counts_room r plens paths tlens trees L f;
-      so_far = path_of plens paths slot;
-      front = subst (λ (z : Bytes). Front z (path_of plens paths slot) path) (sym ew) (front_begin (path_of plens paths slot) path n);
+      room = ap within eu ∙ counts_room v.ed v.plens.now v.paths.now v.tlens.now v.trees.now L f;
+      so_far = path_seen v slot;
+      front = subst (λ (z : Bytes). Front z (path_seen v slot) path) (sym ew) (front_begin (path_seen v slot) path n);
       rest =
-          ap (λ (ns : List Bytes). measured sha1 T e opening ns (path_of plens paths slot) (tree_at (path_of plens paths slot) view) view (counts_of view)) (components_some path n)
-          ∙ ap₂ (λ (o : Option Held) (v : Counts). measured sha1 T e opening (pieces path) (path_of plens paths slot) (editor.tree_of o) view v) (find_slot 20 r plens paths tlens trees L slot U.low U.used)
-          (sym (eu ∙ counts_view r plens paths tlens trees L));
+          ap (λ (ns : List Bytes). measured_for task ns (path_seen v slot) (tree_at (path_seen v slot) (view_seen v)) (view_seen v) (counts_of (view_seen v))) (components_some path n)
+          ∙ ap₂ (λ (o : Option Held) (z : Counts). measured_for task (pieces path) (path_seen v slot) (editor.tree_of o) (view_seen v) z) (find_slot 20 v.ed v.plens.now v.paths.now v.tlens.now v.trees.now L slot U.low U.used)
+          (sym (eu ∙ counts_view v.ed v.plens.now v.paths.now v.tlens.now v.trees.now L));
     }
-  where
-    view : Cache
-    view = view_of 20 r plens paths tlens trees
 
 stops_here : (T : Table) (e : walk.Edit) (opening b : Bool) (q n : Bytes) (t : Tree) (c : Cache) (u v : Counts) (s : Tree) → ((next : Next) → step_as T e opening b q n t c u next ≡ next s v) → is_nil n ≡ false
 stops_here T e opening b q [] t c u v s h = no_way (sym (over_kept 1) ∙ ap (λ (z : Measured). z.kept) (h (λ (x : Tree) (y : Counts). record { code = 0; kept = false })))
 stops_here T e opening b q (x ∷ n) t c u v s h = refl
 
-module _ {T : Table} {e : walk.Edit} {opening : Bool} {c : Cache} {tlens trees : List ℕ} {whole : Bytes} {goal : Measured} {p : Bytes} {level : Level} {u : Counts}
-    (s : Measuring T e opening c tlens trees whole goal p level u) {k : ℕ} (ek : k ≡ length (first_piece p)) {b : Bool} (eb : b ≡ eqb k (length p))
-    {end : ℕ} (ee : end ≡ length whole - length p + k) {below name : Bytes} (ew : below ≡ take end whole) (en : name ≡ take k p) {d : Cache} (ed : d ≡ c)
-    {g : Result (ControlFlow Answer Stage) Refusal} (gi : StepIs tlens trees (step_as T e opening b below name s.tree d u) g) where
+module _ {task : Task} {v : View} {whole : Bytes} {goal : Measured} {p : Bytes} {at_hand : Stage} (s : Measuring task v whole goal p at_hand) {k : ℕ} (ek : k ≡ length (first_piece p)) {b : Bool} (eb : b ≡ eqb k (length p))
+    {end : ℕ} (ee : end ≡ length whole - length p + k) {below name : Bytes} (ew : below ≡ take end whole) (en : name ≡ take k p) (cl : v.ed.hidden ≡ v.ed.free)
+    {g : Result (ControlFlow Answer Stage) Refusal} (gi : StepIs v.tlens.now v.trees.now (step_for task b below name s.tree (cached_of 20 v.ed v.plens.now v.paths.now v.tlens.now v.trees.now) (counts_as at_hand.counts)) g) where
+  abbrev c : Cache
+  c = view_seen v
+
+  abbrev u : Counts
+  u = counts_as at_hand.counts
+
   abbrev q : Bytes
   q = join s.so_far (take k p)
 
   abbrev rest_of_lem : Next
-  rest_of_lem t v = measured sha1 T e opening (rest_of b p k) q t c v
+  rest_of_lem t v = measured_for task (rest_of b p k) q t c v
 
-  step : goal ≡ step_as T e opening b q (take k p) s.tree c u rest_of_lem
+  step : goal ≡ step_for task b q (take k p) s.tree c u rest_of_lem
   step =
-      s.rest ∙ ap (λ (ns : List Bytes). measured sha1 T e opening ns s.so_far s.tree c u) (pieces_are p k ek b eb)
-      ∙ ap (λ (z : Bool). pick_measured (is_nil (take k p)) (over 1) (on_sight sha1 T e opening q (find at q c) rest_of_lem (seen z e (take k p) u (entry_of (take k p) s.tree)))) (rest_nil b p k)
+      s.rest ∙ ap (λ (ns : List Bytes). measured_for task ns s.so_far s.tree c u) (pieces_are p k ek b eb)
+      ∙ ap (λ (z : Bool). pick_measured (is_nil (take k p)) (over 1) (on_sight sha1 (table_for task) (edit_for task) task.opening q (find at q c) rest_of_lem (seen z (edit_for task) (take k p) u (entry_of (take k p) s.tree)))) (rest_nil b p k)
 
-  stepped : StepIs tlens trees (step_as T e opening b q (take k p) s.tree c u) g
+  stepped : StepIs v.tlens.now v.trees.now (step_for task b q (take k p) s.tree c u) g
   stepped =
-      subst (λ (z : Bytes). StepIs tlens trees (step_as T e opening b z (take k p) s.tree c u) g) (ew ∙ front_here s.front k end (piece_short p k ek) ee)
-      (subst (λ (z : Bytes). StepIs tlens trees (step_as T e opening b below z s.tree c u) g) en (subst (λ (z : Cache). StepIs tlens trees (step_as T e opening b below name s.tree z u) g) ed gi))
+      subst (λ (z : Bytes). StepIs v.tlens.now v.trees.now (step_for task b z (take k p) s.tree c u) g) (ew ∙ front_here s.front k end (piece_short p k ek) ee)
+      (subst (λ (z : Bytes). StepIs v.tlens.now v.trees.now (step_for task b below z s.tree c u) g) en (subst (λ (z : Cache). StepIs v.tlens.now v.trees.now (step_for task b below name s.tree z u) g) (cached_view 20 v.ed v.plens.now v.paths.now v.tlens.now v.trees.now cl) gi))
 
   last_over : b ≡ true → (t : Tree) (v : Counts) → rest_of_lem t v ≡ over 0
-  last_over h t v = ap (λ (z : Bool). measured sha1 T e opening (rest_of z p k) q t c v) h
+  last_over h t v = ap (λ (z : Bool). measured_for task (rest_of z p k) q t c v) h
 
   stopped : {answer : Answer} → goal ≡ over (code_number answer) → MeasuredAs goal (Ok answer)
   stopped {answer} h = record { says = (ap (λ (z : Measured). z.kept) h ∙ over_kept (code_number answer), sym (ap (λ (z : Measured). z.code) h ∙ over_code (code_number answer))) }
 
   abbrev Says : Result (ControlFlow Answer Stage) Refusal → Type 0
-  Says z = StepSays tlens trees (step_as T e opening b q (take k p) s.tree c u) z
+  Says z = StepSays v.tlens.now v.trees.now (step_for task b q (take k p) s.tree c u) z
 
   pub measure_past : {refusal : Refusal} → g ≡ Err refusal → MeasuredAs goal (Err refusal)
   measure_past {refusal} f =
@@ -344,16 +355,16 @@ module _ {T : Table} {e : walk.Edit} {opening : Bool} {c : Cache} {tlens trees :
       pub measure_shorter : k < length p
       measure_shorter = not_last p k ek eb earlier
 
-      pub measure_next : {p' : Bytes} → p' ≡ drop (k + 1) p → Measuring T e opening c tlens trees whole goal p' stage.level (counts_as stage.counts)
+      pub measure_next : {p' : Bytes} → p' ≡ drop (k + 1) p → Measuring task v whole goal p' stage
       measure_next {p'} ep =
           let y = goes_on_lem in
           let j = measure_shorter in
-          let n = stops_here T e opening b q (take k p) s.tree c u (counts_as stage.counts) y.0 y.3 in
-          subst (λ (z : Bytes). Measuring T e opening c tlens trees whole goal z stage.level (counts_as stage.counts)) (sym ep) (record {
+          let n = stops_here (table_for task) (edit_for task) task.opening b q (take k p) s.tree c u (counts_as stage.counts) y.0 y.3 in
+          subst (λ (z : Bytes). Measuring task v whole goal z stage) (sym ep) (record {
             tree = y.0;
             stands = y.1;
             room = y.2;
             so_far = q;
             front = front_next s.front k j (piece_slash p k ek j) n;
-            rest = step ∙ y.3 rest_of_lem ∙ ap (λ (z : Bool). measured sha1 T e opening (rest_of z p k) q y.0 c (counts_as stage.counts)) earlier;
+            rest = step ∙ y.3 rest_of_lem ∙ ap (λ (z : Bool). measured_for task (rest_of z p k) q y.0 c (counts_as stage.counts)) earlier;
           })

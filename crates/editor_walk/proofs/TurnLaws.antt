@@ -41,7 +41,9 @@ use Rattle.editor_terms.specs.declared.edit.Turn.{Turn}
 use Rattle.editor_terms.specs.declared.edit.Turn.TheVariants.{Stop, Cut, Put, Down}
 use Rattle.editor_walk.proofs.LandLaws.{wide}
 use Rattle.editor_walk.proofs.MeasureLaws.{nil_length}
-use Rattle.editor_walk.specs.Steps.{PutFits, down_as, step_as, Fitting, StepEnds, SteppedAs}
+use Rattle.editor_walk.specs.Steps.{PutFits, down_as, step_as, step_for, Fitting, StepEnds, SteppedAs}
+use Rattle.editor_walk.specs.Tasks.{edit_for, table_for}
+use Rattle.editor_walk.specs.declared.task.Task.{Task}
 use Rattle.editor_walk.proofs.DownLaws.{same_write, write_twice, stepped_code, stepped_kept, stepped_fits, ended_code}
 
 -- the model's step after a turn r
@@ -95,14 +97,30 @@ module _ {v : View} {s : Store} (h : Shows v s) (L : LaidIn 20 s) {k : ℕ} (U :
   seen_order = ap (λ (t : Tree). rising key t) seen_tree ∙ (sound_well 20 (tree_in_slot 20 s k) (L.well k U.low)).in_order
 
 -- a component of no bytes
-pub step_empty : (T : Table) (e : walk.Edit) (opening b : Bool) (p q n : Bytes) (s : Store) → LaidIn 20 s → s.ed.hidden ≡ s.ed.free → length n ≡ 0 →
-    SteppedAs s.ed (step_as T e opening b p q n (view_in 20 s)) q (Break (Err EmptyComponent)) s
-step_empty T e opening b p q [] s L cl z = record { stand = record { laid = L; closed = cl; write = same_write s.ed }; ends = λ next. ended_code 1 (view_in 20 s) }
-step_empty T e opening b p q (x ∷ n) s L cl z = absurd (omega (arith, z))
+pub step_empty : (task : Task) (b : Bool) (p q n : Bytes) (s : Store) → LaidIn 20 s → s.ed.hidden ≡ s.ed.free → length n ≡ 0 →
+    SteppedAs s.ed (step_for task b p q n (view_in 20 s)) q (Break (Err EmptyComponent)) s
+step_empty task b p q [] s L cl z = record { stand = record { laid = L; closed = cl; write = same_write s.ed }; ends = λ next. ended_code 1 (view_in 20 s) }
+step_empty task b p q (x ∷ n) s L cl z = absurd (omega (arith, z))
 
--- a component of some bytes, in the tree of a slot
-module _ (T : Table) (edit : Edit) (opening b : Bool) (q n : Bytes) (s : Store) (L : LaidIn 20 s) (cl : s.ed.hidden ≡ s.ed.free) (k : ℕ) (U : Used s.ed k)
-    (seen : Opt Seen) (x : Turn) (ti : TurnIs edit b seen x) (es : looks edit b ≡ true → seen_as seen ≡ parts_of (entry_of n (tree_in_slot 20 s k))) (bytes : length n ≡ 0 → ⊥) where
+-- at a component of some bytes, in the tree of the slot k: what was seen of its entry, and the turn
+pub record Turning (task : Task) (b : Bool) (q n : Bytes) (s : Store) (k : ℕ) (seen : Opt Seen) (x : Turn) : Type 0 where
+  pub laid : LaidIn 20 s
+  pub closed : s.ed.hidden ≡ s.ed.free
+  pub used : Used s.ed k
+  pub turn : TurnIs task.edit b seen x
+  pub sees : looks task.edit b ≡ true → seen_as seen ≡ parts_of (entry_of n (tree_in_slot 20 s k))
+  pub bytes : length n ≡ 0 → ⊥
+
+module _ {task : Task} {b : Bool} {q n : Bytes} {s : Store} {k : ℕ} {seen : Opt Seen} {x : Turn} (y : Turning task b q n s k seen x) where
+  abbrev T : Table
+  T = table_for task
+
+  abbrev e : walk.Edit
+  e = edit_for task
+
+  abbrev opening : Bool
+  opening = task.opening
+
   abbrev p : Bytes
   p = path_in_slot s k
 
@@ -113,15 +131,15 @@ module _ (T : Table) (edit : Edit) (opening b : Bool) (q n : Bytes) (s : Store) 
   c = view_in 20 s
 
   found : find at p c ≡ some (p ↝ t)
-  found = find_slot 20 s.ed s.plens.now s.paths.now s.tlens.now s.trees.now L k U.low U.used
+  found = find_slot 20 s.ed s.plens.now s.paths.now s.tlens.now s.trees.now y.laid k y.used.low y.used.used
 
-  at_turn : (next : Cache → Walked) → step_as T (as_edit edit) opening b p q n c next ≡ turned sha1 T (as_edit edit) opening p q next c (turn_as x b n t)
+  at_turn : (next : Cache → Walked) → step_as T e opening b p q n c next ≡ turned sha1 T e opening p q next c (turn_as x b n t)
   at_turn next =
-      ap (λ (z : Bool). pick_walked z (ended 1 c) (turned sha1 T (as_edit edit) opening p q next c (walk.turn (null sha1.width) b (as_edit edit) n (editor.tree_at p c)))) (nil_length n bytes)
-      ∙ ap₂ (λ (w : ℕ) (o : Option Held). turned sha1 T (as_edit edit) opening p q next c (walk.turn (null w) b (as_edit edit) n (editor.tree_of o))) wide found
-      ∙ ap (turned sha1 T (as_edit edit) opening p q next c) (ti.walks n t es)
+      ap (λ (z : Bool). pick_walked z (ended 1 c) (turned sha1 T e opening p q next c (walk.turn (null sha1.width) b e n (editor.tree_at p c)))) (nil_length n y.bytes)
+      ∙ ap₂ (λ (w : ℕ) (o : Option Held). turned sha1 T e opening p q next c (walk.turn (null w) b e n (editor.tree_of o))) wide found
+      ∙ ap (turned sha1 T e opening p q next c) (y.turn.walks n t y.sees)
 
-  turned_fits : (next : Cache → Walked) (r : Turn) (b : Bool) → (made T (as_edit edit) opening p q n c t next r b).kept ≡ true → PutFits r s k n
+  turned_fits : (next : Cache → Walked) (r : Turn) (b : Bool) → (made T e opening p q n c t next r b).kept ≡ true → PutFits r s k n
   unfolding turned
   turned_fits next (Stop answer) b h = tt
   turned_fits next Cut b h = tt
@@ -129,7 +147,7 @@ module _ (T : Table) (edit : Edit) (opening b : Bool) (q n : Bytes) (s : Store) 
   turned_fits next (Put kind i) false h = stepped_fits (put at (p ↝ changed (Put kind i) n t) c) _ h
   turned_fits next (Down i) b h = tt
 
-  pub turn_fits : Fitting (step_as T (as_edit edit) opening b p q n c) → PutFits x s k n
+  pub turn_fits : Fitting (step_as T e opening b p q n c) → PutFits x s k n
   turn_fits f = turned_fits f.rest x b (sym (ap (λ (z : Walked). z.kept) (at_turn f.rest)) ∙ f.kept)
 
   module _ {s' : Store} (E : EditedIn 20 s k (changed x n t) s') where
@@ -140,38 +158,38 @@ module _ (T : Table) (edit : Edit) (opening b : Bool) (q n : Bytes) (s : Store) 
     still_laid = rw (E.keys.plens, E.keys.paths) E.edit.laid
 
     pub still_closed : s'.ed.hidden ≡ s'.ed.free
-    still_closed = E.edit.kept.hidden ∙ cl ∙ sym E.edit.kept.free
+    still_closed = E.edit.kept.hidden ∙ y.closed ∙ sym E.edit.kept.free
 
     now_view : after' ≡ put at (p ↝ changed x n t) c
     now_view = rw (E.keys.plens, E.keys.paths) E.edit.view
 
-    pub step_stop : goes_on opening (turn_as x b n t) ≡ false → {answer : Answer} → code_number answer ≡ ends_with x → SteppedAs s.ed (step_as T (as_edit edit) opening b p q n c) q (Break answer) s'
+    pub step_stop : goes_on opening (turn_as x b n t) ≡ false → {answer : Answer} → code_number answer ≡ ends_with x → SteppedAs s.ed (step_as T e opening b p q n c) q (Break answer) s'
     step_stop h ea =
         record {
           stand = record { laid = still_laid; closed = still_closed; write = E.edit.kept.write };
           ends = λ next.
-              let g = turned_stop T (as_edit edit) opening p q n c t next found x b h in
+              let g = turned_stop T e opening p q n c t next found x b h in
               (ap (λ (z : Walked). z.code) (at_turn next) ∙ g.0 ∙ sym ea, ap (λ (z : Walked). z.now) (at_turn next) ∙ g.1 ∙ sym now_view);
         }
 
     module _ (h : goes_on opening (turn_as x b n t) ≡ true) where
-      onward : (next : Cache → Walked) → step_as T (as_edit edit) opening b p q n c next ≡ stepped after' (down_as T (as_edit edit) q (wanted_by x) after' next)
+      onward : (next : Cache → Walked) → step_as T e opening b p q n c next ≡ stepped after' (down_as T e q (wanted_by x) after' next)
       onward next =
-          at_turn next ∙ turned_on T (as_edit edit) opening p q n c t next x b h ∙ ap (λ (z : Cache). stepped z (down_as T (as_edit edit) q (wanted_by x) z next)) (sym now_view)
+          at_turn next ∙ turned_on T e opening p q n c t next x b h ∙ ap (λ (z : Cache). stepped z (down_as T e q (wanted_by x) z next)) (sym now_view)
 
-      pub down_fits : Fitting (step_as T (as_edit edit) opening b p q n c) → Fitting (down_as T (as_edit edit) q (wanted_by x) after')
+      pub down_fits : Fitting (step_as T e opening b p q n c) → Fitting (down_as T e q (wanted_by x) after')
       down_fits f = record { rest = f.rest; kept = stepped_kept after' _ (sym (ap (λ (z : Walked). z.kept) (onward f.rest)) ∙ f.kept) }
 
-      pub step_on : {g : ControlFlow Answer ℕ} {s'' : Store} → SteppedAs s'.ed (down_as T (as_edit edit) q (wanted_by x) after') q g s'' → SteppedAs s.ed (step_as T (as_edit edit) opening b p q n c) q g s''
+      pub step_on : {g : ControlFlow Answer ℕ} {s'' : Store} → SteppedAs s'.ed (down_as T e q (wanted_by x) after') q g s'' → SteppedAs s.ed (step_as T e opening b p q n c) q g s''
       step_on {g} {s''} d = record { stand = record { laid = d.stand.laid; closed = d.stand.closed; write = write_twice E.edit.kept.write d.stand.write }; ends = go g d.ends }
         where
-          same : (next : Cache → Walked) → ((step_as T (as_edit edit) opening b p q n c next).code ≡ (down_as T (as_edit edit) q (wanted_by x) after' next).code)
-              × ((step_as T (as_edit edit) opening b p q n c next).now ≡ (down_as T (as_edit edit) q (wanted_by x) after' next).now)
+          same : (next : Cache → Walked) → ((step_as T e opening b p q n c next).code ≡ (down_as T e q (wanted_by x) after' next).code)
+              × ((step_as T e opening b p q n c next).now ≡ (down_as T e q (wanted_by x) after' next).now)
           same next =
-              let g = stepped_code after' (down_as T (as_edit edit) q (wanted_by x) after' next) in
+              let g = stepped_code after' (down_as T e q (wanted_by x) after' next) in
               (ap (λ (z : Walked). z.code) (onward next) ∙ g.0, ap (λ (z : Walked). z.now) (onward next) ∙ g.1)
 
-          go : (y : ControlFlow Answer ℕ) → StepEnds (down_as T (as_edit edit) q (wanted_by x) after') q s'' y → StepEnds (step_as T (as_edit edit) opening b p q n c) q s'' y
+          go : (z : ControlFlow Answer ℕ) → StepEnds (down_as T e q (wanted_by x) after') q s'' z → StepEnds (step_as T e opening b p q n c) q s'' z
           go (Break answer) m = λ next. ((same next).0 ∙ (m next).0, (same next).1 ∙ (m next).1)
           go (Continue j) m = (
             m.0,

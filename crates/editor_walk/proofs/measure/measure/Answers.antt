@@ -15,15 +15,10 @@ use Rattle.editor_walk.proofs.MeasureLaws.{stored, passed_on, measure_empty, mea
 use Rattle.editor_walk.proofs.measure.measure.Goals as goal
 
 pub returns-then-path-eq0 : goal.returns-then-path-eq0
-returns-then-path-eq0 c =
-    let a = c.args in
-    measure_empty (table_for a.task) (edit_for a.task) a.task.opening (path_seen a.v a.slot) a.path.now (view_seen a.v) c.if-path-eq0.true refl
+returns-then-path-eq0 c = measure_empty c.args.task (path_seen c.args.v c.args.slot) c.args.path.now (view_seen c.args.v) c.if-path-eq0.true refl
 
 pub loop-answer-init : goal.loop-answer-init
-loop-answer-init c =
-    let a = c.args in
-    measure_begin (table_for a.task) (edit_for a.task) a.task.opening a.v.ed a.v.plens.now a.v.paths.now a.v.tlens.now a.v.trees.now a.full.now a.path.now a.slot c.requires.0 c.requires.2 c.requires.3 c.requires.4
-    c.if-path-eq0.false (counts_as c.counts_of.result) c.counts_of.ensures
+loop-answer-init c = measure_begin c.args.task c.args.v c.args.full.now c.args.path.now c.args.slot c.requires.0 c.requires.2 c.requires.3 c.requires.4 c.if-path-eq0.false c.counts_of.result c.counts_of.ensures
 
 pub overflow_sub-end : goal.overflow_sub-end
 overflow_sub-end c = omega (arith, front_long c.loop-answer.invariant.front)
@@ -53,21 +48,21 @@ step-requires c =
 
 pub returns-in_err-answer : goal.returns-in_err-answer
 returns-in_err-answer c =
-    let v = c.args.v in
+    let i = c.loop-answer.invariant in
     rw (passed_on _ c.from_residual.ensures.1)
-    (measure_past c.loop-answer.invariant c.component_len-k.ensures refl refl c.front-below.ensures c.front-name.ensures (cached_view 20 v.ed v.plens.now v.paths.now v.tlens.now v.trees.now c.requires.1) (c.step.ensures c.loop-answer.invariant.tree c.loop-answer.invariant.stands) c.in_err-answer.was)
+    (measure_past i c.component_len-k.ensures refl refl c.front-below.ensures c.front-name.ensures c.requires.1 (c.step.ensures i.tree i.stands) c.in_err-answer.was)
 
 pub returns-in-Break : goal.returns-in-Break
 returns-in-Break c =
-    let v = c.args.v in
-    measure_over c.loop-answer.invariant c.component_len-k.ensures refl refl c.front-below.ensures c.front-name.ensures (cached_view 20 v.ed v.plens.now v.paths.now v.tlens.now v.trees.now c.requires.1) (c.step.ensures c.loop-answer.invariant.tree c.loop-answer.invariant.stands) (c.in_ok-answer.was ∙ ap Ok c.in-Break.is)
+    let i = c.loop-answer.invariant in
+    measure_over i c.component_len-k.ensures refl refl c.front-below.ensures c.front-name.ensures c.requires.1 (c.step.ensures i.tree i.stands) (c.in_ok-answer.was ∙ ap Ok c.in-Break.is)
 
 pub returns-then-last : goal.returns-then-last
 returns-then-last c =
-    let v = c.args.v in
-    measure_last c.loop-answer.invariant c.component_len-k.ensures refl refl c.front-below.ensures c.front-name.ensures (cached_view 20 v.ed v.plens.now v.paths.now v.tlens.now v.trees.now c.requires.1) (c.step.ensures c.loop-answer.invariant.tree c.loop-answer.invariant.stands) (c.in_ok-answer.was ∙ ap Ok c.in-Continue.is) c.if-last.true refl
+    let i = c.loop-answer.invariant in
+    measure_last i c.component_len-k.ensures refl refl c.front-below.ensures c.front-name.ensures c.requires.1 (c.step.ensures i.tree i.stands) (c.in_ok-answer.was ∙ ap Ok c.in-Continue.is) c.if-last.true refl
 
 pub loop-answer-preserved : goal.loop-answer-preserved
 loop-answer-preserved c =
-    let v = c.args.v in
-    measure_next c.loop-answer.invariant c.component_len-k.ensures refl refl c.front-below.ensures c.front-name.ensures (cached_view 20 v.ed v.plens.now v.paths.now v.tlens.now v.trees.now c.requires.1) (c.step.ensures c.loop-answer.invariant.tree c.loop-answer.invariant.stands) (c.in_ok-answer.was ∙ ap Ok c.in-Continue.is) c.if-last.false c.tail-p.ensures
+    let i = c.loop-answer.invariant in
+    measure_next i c.component_len-k.ensures refl refl c.front-below.ensures c.front-name.ensures c.requires.1 (c.step.ensures i.tree i.stands) (c.in_ok-answer.was ∙ ap Ok c.in-Continue.is) c.if-last.false c.tail-p.ensures
