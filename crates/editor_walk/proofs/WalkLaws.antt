@@ -10,14 +10,12 @@ use lib.ListN.{length, take, drop}
 use Rattle.model.specs.Bytes.{Bytes, is_nil, has, by}
 use Rattle.model.specs.Tree.{good_name}
 use Rattle.model.specs.Paths.{pieces, components, join, full, some_long, refused}
-use Rattle.model.specs.Table.{Table}
 use Rattle.model.specs.Editor.{Cache, tree_at}
 use Rattle.model.specs.Formats.{sha1}
 use Rattle.model.specs.Tree.{null}
-use Rattle.model.specs.Walk.{Edit, Walked, ended, turned, turn, pick_walked, walk}
+use Rattle.model.specs.Walk.{Walked, ended, turned, turn, pick_walked}
 use Rattle.model.proofs.Basics.{or_left, or_right, not_false, no_way}
 use Rattle.names.specs.Places.{first_piece}
-use Rattle.store_slots.specs.declared.Record.{Record}
 use Rattle.store_slots.specs.declared.Store.{Store}
 use Rattle.store_slots.specs.View.{Used}
 use Rattle.store_slots.specs.Stores.{LaidIn, SameLent, path_in_slot, view_in}

@@ -10,7 +10,7 @@ ghost use Rattle.store_slots.specs.Stores.{KeysSound, LaidSeen};
 ghost use Rattle.editor_terms.specs.Edits.{wanted_by};
 ghost use Rattle.editor_walk.specs.Counted.{counts_as};
 ghost use Rattle.editor_walk.specs.Levels.{Stored, Stands, SeenAt, StepIs, CachesAs, LandedAs, MeasuredAs, down_as, step_for};
-ghost use Rattle.editor_walk.specs.Tasks.{edit_for, measure_for, path_seen, table_for, view_seen};
+ghost use Rattle.editor_walk.specs.Tasks.{cached_seen, edit_for, measure_for, path_seen, table_for, view_seen};
 
 use crate::counts::Counts;
 use crate::land::Landing;
@@ -124,8 +124,7 @@ fn step<'a>(
         × ((t : Tree) × Stands v.tlens.now v.trees.now stage.level t)
         × (has 47 name.now ≡ false) × (length below.now ≤ 1280) × (length name.now ≤ 1280) × (withinLimits (counts_as stage.counts) ≡ true) }
     ensures { (t : Tree) → Stands v.entry.tlens.now v.entry.trees.now stage.entry.level t → StepIs v.entry.tlens.now v.entry.trees.now
-        (step_for task.entry «last» below.now name.now t
-        (cached_of 20 v.entry.ed v.entry.plens.now v.entry.paths.now v.entry.tlens.now v.entry.trees.now) (counts_as stage.entry.counts)) result }
+        (step_for task.entry «last» below.now name.now t (cached_seen v.entry) (counts_as stage.entry.counts)) result }
 {
     let n = name.len();
     if n == 0 {

@@ -1,7 +1,6 @@
 -- `editor_walk::apply::step` meets its contract: the turn is applied, and the walk ends there or goes down. Assumes nothing.
-use mathlib.Core.Path.{refl, sym, ap, ◌∙◌}
+use mathlib.Core.Path.{sym, ap, ◌∙◌}
 use Rattle.model.specs.Tree.{Tree, entry_of}
-use Rattle.model.proofs.Basics.{not_true, not_false}
 use Rattle.store_slots.specs.Stores.{path_in_slot, tree_in_slot}
 use Rattle.editor_terms.specs.Edits.{parts_of}
 use Rattle.editor_walk.proofs.DownLaws.{lent_twice}
@@ -35,7 +34,7 @@ pub returns-then-not-goes_down : goal.returns-then-not-goes_down
 returns-then-not-goes_down c =
     let a = c.args in
     record {
-      done = step_stop (turning (goal.at.returns-then-not-goes_down c).After-turn-turn) c.apply.ensures (sym (c.goes_down.ensures a.name.now (tree_in_slot 20 a.s.now a.slot)) ∙ not_true _ c.if-not-goes_down.true-raw) c.answer.ensures;
+      done = step_stop (turning (goal.at.returns-then-not-goes_down c).After-turn-turn) c.apply.ensures (sym (c.goes_down.ensures a.name.now (tree_in_slot 20 a.s.now a.slot)) ∙ c.if-not-goes_down.true) c.answer.ensures;
       lent = c.apply.ensures.lent;
     }
 
@@ -45,13 +44,13 @@ go_down-requires c =
     let t = turning (goal.at.go_down-requires c).After-turn-turn in (
       still_laid t c.apply.ensures,
       still_closed t c.apply.ensures,
-      down_fits t c.apply.ensures (sym (c.goes_down.ensures a.name.now (tree_in_slot 20 a.s.now a.slot)) ∙ not_false _ c.if-not-goes_down.false-raw) c.requires.4,
+      down_fits t c.apply.ensures (sym (c.goes_down.ensures a.name.now (tree_in_slot 20 a.s.now a.slot)) ∙ c.if-not-goes_down.false) c.requires.4,
     )
 
 pub returns : goal.returns
 returns c =
     let a = c.args in
     record {
-      done = step_on (turning (goal.at.returns c).After-turn-turn) c.apply.ensures (sym (c.goes_down.ensures a.name.now (tree_in_slot 20 a.s.now a.slot)) ∙ not_false _ c.if-not-goes_down.false-raw) c.go_down.ensures.done;
+      done = step_on (turning (goal.at.returns c).After-turn-turn) c.apply.ensures (sym (c.goes_down.ensures a.name.now (tree_in_slot 20 a.s.now a.slot)) ∙ c.if-not-goes_down.false) c.go_down.ensures.done;
       lent = lent_twice c.apply.ensures.lent c.go_down.ensures.lent;
     }

@@ -3,7 +3,6 @@ use mathlib.Core.Path.{sym, ap, ◌∙◌, subst}
 use mathlib.Core.List.{[]}
 use mathlib.Core.Bool.{Bool}
 use Rattle.model.specs.Formats.{sha1}
-use Rattle.model.proofs.Basics.{not_true, not_false}
 use Rattle.editor_terms.specs.Ids.{id_bytes}
 use Rattle.editor_terms.specs.Edits.{wanted_as}
 use Rattle.editor_terms.specs.Tables.{objects_in}
@@ -16,11 +15,11 @@ use Rattle.editor_walk.proofs.land.land_new.Goals as goal
 pub returns-then-not-is_empty_tree : goal.returns-then-not-is_empty_tree
 returns-then-not-is_empty_tree c =
     subst (λ (x : Plan). PlanIs x c.land_raw.result)
-    (sym (ap (λ (z : Option Id). planned sha1 (objects_in c.args.table) c.args.leaf (wanted_as z)) c.in-Some.is ∙ plan_other (objects_in c.args.table) c.args.leaf (id_bytes c.in-Some.id) c.is_empty_tree.ensures (not_true _ c.if-not-is_empty_tree.true-raw)))
+    (sym (ap (λ (z : Option Id). planned sha1 (objects_in c.args.table) c.args.leaf (wanted_as z)) c.in-Some.is ∙ plan_other (objects_in c.args.table) c.args.leaf (id_bytes c.in-Some.id) c.is_empty_tree.ensures c.if-not-is_empty_tree.true))
     c.land_raw.ensures
 
 pub returns-then-leaf : goal.returns-then-leaf
-returns-then-leaf c = ap (λ (z : Option Id). planned sha1 (objects_in c.args.table) c.args.leaf (wanted_as z)) c.in-Some.is ∙ plan_empty (objects_in c.args.table) c.args.leaf (id_bytes c.in-Some.id) c.is_empty_tree.ensures (not_false _ c.if-not-is_empty_tree.false-raw) ∙ ap (λ (b : Bool). pick_plan b (stops 0) (caches [])) c.if-leaf.true
+returns-then-leaf c = ap (λ (z : Option Id). planned sha1 (objects_in c.args.table) c.args.leaf (wanted_as z)) c.in-Some.is ∙ plan_empty (objects_in c.args.table) c.args.leaf (id_bytes c.in-Some.id) c.is_empty_tree.ensures c.if-not-is_empty_tree.false ∙ ap (λ (b : Bool). pick_plan b (stops 0) (caches [])) c.if-leaf.true
 
 pub returns-else-leaf : goal.returns-else-leaf
-returns-else-leaf c = ap (λ (z : Option Id). planned sha1 (objects_in c.args.table) c.args.leaf (wanted_as z)) c.in-Some.is ∙ plan_empty (objects_in c.args.table) c.args.leaf (id_bytes c.in-Some.id) c.is_empty_tree.ensures (not_false _ c.if-not-is_empty_tree.false-raw) ∙ ap (λ (b : Bool). pick_plan b (stops 0) (caches [])) c.if-leaf.false
+returns-else-leaf c = ap (λ (z : Option Id). planned sha1 (objects_in c.args.table) c.args.leaf (wanted_as z)) c.in-Some.is ∙ plan_empty (objects_in c.args.table) c.args.leaf (id_bytes c.in-Some.id) c.is_empty_tree.ensures c.if-not-is_empty_tree.false ∙ ap (λ (b : Bool). pick_plan b (stops 0) (caches [])) c.if-leaf.false

@@ -1,7 +1,6 @@
 -- `editor_walk::look::look_in` meets its contract: each way out is a case of the model's step. Assumes nothing.
 use mathlib.Core.Path.{◌≡◌, sym, ap, ◌∙◌, subst}
 use Rattle.model.specs.Tree.{entry_of_lookup}
-use Rattle.model.proofs.Basics.{not_true, not_false}
 use Rattle.model.proofs.SoundTrees.{sound_well}
 use Rattle.names_compact.specs.Compact.{unpack}
 use Rattle.store_runs.specs.Digits.{digits}
@@ -30,7 +29,7 @@ entry_seen-2 : (c : goal.Then-not-is_tree) → seen_as (Some c.in-Some.seen) ≡
 entry_seen-2 c = sym (ap seen_as c.in-Some.is) ∙ c.seen_in.ensures
 
 pub returns-then-not-is_tree : goal.returns-then-not-is_tree
-returns-then-not-is_tree c = look_other (digits 64 c.args.v.ed.hidden) (cut c.args.v.plens.now c.args.v.paths.now) (unpack 20 c.args.tree.now) c.args.below.now c.args.name.now c.requires.3 c.requires.4 c.in-Some.seen (entry_seen-2 c) c.args.last c.if-last.false (sym c.is_tree.ensures ∙ not_true _ c.if-not-is_tree.true-raw)
+returns-then-not-is_tree c = look_other (digits 64 c.args.v.ed.hidden) (cut c.args.v.plens.now c.args.v.paths.now) (unpack 20 c.args.tree.now) c.args.below.now c.args.name.now c.requires.3 c.requires.4 c.in-Some.seen (entry_seen-2 c) c.args.last c.if-last.false (sym c.is_tree.ensures ∙ c.if-not-is_tree.true)
 
 pub returns-in_default : goal.returns-in_default
 returns-in_default c = look_none (digits 64 c.args.v.ed.hidden) (cut c.args.v.plens.now c.args.v.paths.now) (unpack 20 c.args.tree.now) c.args.below.now c.args.name.now c.args.last (sym (ap seen_as c.in_default.is) ∙ c.seen_in.ensures)
@@ -41,7 +40,7 @@ entry_seen-3 c = sym (ap seen_as c.in-Some.is) ∙ c.seen_in.ensures
 
 pub returns-in-Some-find : goal.returns-in-Some-find
 returns-in-Some-find c =
-    look_on_lem (digits 64 c.args.v.ed.hidden) (cut c.args.v.plens.now c.args.v.paths.now) (unpack 20 c.args.tree.now) c.args.below.now c.args.name.now c.requires.3 c.requires.4 c.in-Some.seen (entry_seen-3 c) c.args.last c.if-last.false (sym c.is_tree.ensures ∙ not_false _ c.if-not-is_tree.false-raw) (length_digits 64 c.args.v.ed.hidden) (length_cut c.args.v.plens.now c.args.v.paths.now ∙ c.requires.1) c.in-Some-find.slot
+    look_on_lem (digits 64 c.args.v.ed.hidden) (cut c.args.v.plens.now c.args.v.paths.now) (unpack 20 c.args.tree.now) c.args.below.now c.args.name.now c.requires.3 c.requires.4 c.in-Some.seen (entry_seen-3 c) c.args.last c.if-last.false (sym c.is_tree.ensures ∙ c.if-not-is_tree.false) (length_digits 64 c.args.v.ed.hidden) (length_cut c.args.v.plens.now c.args.v.paths.now ∙ c.requires.1) c.in-Some-find.slot
     (λ v runs l. subst (λ (z : Option ℕ). SlotIs v (digits 64 c.args.v.ed.hidden) (cut c.args.v.plens.now c.args.v.paths.now) runs c.args.below.now z) c.in-Some-find.is (c.find.ensures v runs l))
 
 -- the entry that was seen

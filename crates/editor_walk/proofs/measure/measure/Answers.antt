@@ -6,10 +6,8 @@ use Rattle.std.specs.Prelude.{Ok}
 use lib.ListN.{length}
 use lib.Seq.{length-take-le}
 use Rattle.model.specs.Bytes.{has}
-use Rattle.store_slots.proofs.Cached.{cached_view}
 use Rattle.names.proofs.FrontLaws.{front_long, piece_short}
-use Rattle.editor_walk.specs.Counted.{counts_as}
-use Rattle.editor_walk.specs.Tasks.{edit_for, path_seen, table_for, view_seen}
+use Rattle.editor_walk.specs.Tasks.{path_seen, view_seen}
 use Rattle.editor_walk.proofs.ComponentLaws.{piece_plain}
 use Rattle.editor_walk.proofs.MeasureLaws.{stored, passed_on, measure_empty, measure_begin, measure_past, measure_over, measure_last, measure_next}
 use Rattle.editor_walk.proofs.measure.measure.Goals as goal
