@@ -42,7 +42,7 @@ use Rattle.std.specs.declared.ops.ControlFlow.TheVariants.{Continue, Break}
 use Rattle.editor_terms.specs.Answers.{Answer, code_number}
 use Rattle.editor_terms.specs.Edits.{parts_of, seen_as, turn_as, goes_on, wanted_by, ends_with, counts_after, sight_as, TurnIs}
 use Rattle.editor_terms.specs.declared.refusal.Refusal.{Refusal}
-use Rattle.editor_terms.specs.declared.refusal.Refusal.TheVariants.{EmptyComponent, NoRoom}
+use Rattle.editor_terms.specs.declared.refusal.Refusal.TheVariants.{NoRoom}
 use Rattle.editor_terms.specs.declared.edit.Seen.{Seen}
 use Rattle.editor_terms.specs.declared.edit.Turn.{Turn}
 use Rattle.editor_terms.specs.declared.edit.Turn.TheVariants.{Stop, Cut, Put, Down}
@@ -216,10 +216,6 @@ module _ (T : Table) (e : walk.Edit) (q : Bytes) (o : Option Held) (n : Bytes) (
   sight_on (Down i) b t w h = counted_on (counts_after (Down i) s n u) _ w
 
 -- one step
-pub step_empty : (task : Task) (b : Bool) (q n : Bytes) (t : Tree) (c : Cache) (u : Counts) {tlens trees : List ℕ} → length n ≡ 0 → StepIs tlens trees (step_for task b q n t c u) (Ok (Break (Err EmptyComponent)))
-step_empty task b q [] t c u z = record { says = λ next. refl }
-step_empty task b q (x ∷ n) t c u z = absurd (omega (arith, z))
-
 pub nil_length : (n : Bytes) → (length n ≡ 0 → ⊥) → is_nil n ≡ false
 nil_length [] h = absurd (h refl)
 nil_length (x ∷ n) h = refl

@@ -3,7 +3,6 @@ use mathlib.Core.Path.{sym, ap, ◌∙◌}
 use Rattle.model.specs.Tree.{Tree, entry_of}
 use Rattle.store_slots.specs.Stores.{path_in_slot, tree_in_slot}
 use Rattle.editor_terms.specs.Edits.{parts_of}
-use Rattle.editor_walk.proofs.DownLaws.{lent_twice}
 use Rattle.editor_walk.proofs.TurnLaws.{seen_run, seen_tree, seen_order, step_empty, Turning, turn_fits, still_laid, still_closed, step_stop, down_fits, step_on}
 use Rattle.editor_walk.proofs.apply.step.Goals as goal
 use Rattle.editor_walk.proofs.apply.step.Goals.{After-turn-turn}
@@ -30,13 +29,10 @@ turning c =
 pub apply-requires : goal.apply-requires
 apply-requires c = (c.requires.0, c.requires.2, c.requires.3 c.if-name-eq0.false, turn_fits (turning (goal.at.apply-requires c).After-turn-turn) c.requires.4)
 
-pub returns-then-not-goes_down : goal.returns-then-not-goes_down
-returns-then-not-goes_down c =
+pub returns-then-not-goes_down-clause-done : goal.returns-then-not-goes_down-clause-done
+returns-then-not-goes_down-clause-done c =
     let a = c.args in
-    record {
-      done = step_stop (turning (goal.at.returns-then-not-goes_down c).After-turn-turn) c.apply.ensures (sym (c.goes_down.ensures a.name.now (tree_in_slot 20 a.s.now a.slot)) ∙ c.if-not-goes_down.true) c.answer.ensures;
-      lent = c.apply.ensures.lent;
-    }
+    step_stop (turning (goal.at.returns-then-not-goes_down-clause-done c).After-turn-turn) c.apply.ensures (sym (c.goes_down.ensures a.name.now (tree_in_slot 20 a.s.now a.slot)) ∙ c.if-not-goes_down.true) c.answer.ensures
 
 pub go_down-requires : goal.go_down-requires
 go_down-requires c =
@@ -47,10 +43,7 @@ go_down-requires c =
       down_fits t c.apply.ensures (sym (c.goes_down.ensures a.name.now (tree_in_slot 20 a.s.now a.slot)) ∙ c.if-not-goes_down.false) c.requires.4,
     )
 
-pub returns : goal.returns
-returns c =
+pub returns-clause-done : goal.returns-clause-done
+returns-clause-done c =
     let a = c.args in
-    record {
-      done = step_on (turning (goal.at.returns c).After-turn-turn) c.apply.ensures (sym (c.goes_down.ensures a.name.now (tree_in_slot 20 a.s.now a.slot)) ∙ c.if-not-goes_down.false) c.go_down.ensures.done;
-      lent = lent_twice c.apply.ensures.lent c.go_down.ensures.lent;
-    }
+    step_on (turning (goal.at.returns-clause-done c).After-turn-turn) c.apply.ensures (sym (c.goes_down.ensures a.name.now (tree_in_slot 20 a.s.now a.slot)) ∙ c.if-not-goes_down.false) c.go_down.ensures.done

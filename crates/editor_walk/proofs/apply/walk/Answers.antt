@@ -1,8 +1,5 @@
 -- `editor_walk::apply::walk` meets its contract: what is left of the path decides, from the store as it is. Assumes nothing.
 use mathlib.Core.Path.{refl}
-use native.Mathlib.Omega.{arith}
-use Rattle.names.proofs.FrontLaws.{front_long, piece_short}
-use Rattle.editor_walk.proofs.DownLaws.{lent_twice}
 use Rattle.editor_walk.proofs.WalkLaws.{walk_empty, walk_begin, walk_fits, walk_good, walk_over, walk_last, walk_next}
 use Rattle.editor_walk.proofs.apply.walk.Goals as goal
 
@@ -12,12 +9,6 @@ returns-then-path-eq0-clause-done c = walk_empty c.args.task c.args.s.now c.requ
 pub loop-answer-init : goal.loop-answer-init
 loop-answer-init c =
     let a = c.args in walk_begin a.task a.s.now c.requires.0 c.requires.1 a.slot a.path.now a.full.now c.requires.2 c.requires.3 c.requires.4 c.requires.5 c.if-path-eq0.false
-
-pub overflow_sub-end : goal.overflow_sub-end
-overflow_sub-end c = omega (arith, front_long c.loop-answer.invariant.front)
-
-pub overflow_add-end : goal.overflow_add-end
-overflow_add-end c = omega (arith, front_long c.loop-answer.invariant.front, piece_short c.loop-answer.p.now c.component_len-k.result c.component_len-k.ensures)
 
 pub step-requires : goal.step-requires
 step-requires c =
@@ -29,19 +20,11 @@ step-requires c =
       walk_fits i c.component_len-k.ensures refl refl c.front-below.ensures c.front-name.ensures,
     )
 
-pub returns-in-Break : goal.returns-in-Break
-returns-in-Break c =
-    record {
-      done = walk_over c.loop-answer.invariant c.component_len-k.ensures refl refl c.front-below.ensures c.front-name.ensures c.step.ensures.done c.in-Break.is;
-      lent = lent_twice c.loop-answer.invariant.lent c.step.ensures.lent;
-    }
+pub returns-in-Break-clause-done : goal.returns-in-Break-clause-done
+returns-in-Break-clause-done c = walk_over c.loop-answer.invariant c.component_len-k.ensures refl refl c.front-below.ensures c.front-name.ensures c.step.ensures.done c.in-Break.is
 
-pub returns-then-last : goal.returns-then-last
-returns-then-last c =
-    record {
-      done = walk_last c.loop-answer.invariant c.component_len-k.ensures refl refl c.front-below.ensures c.front-name.ensures c.step.ensures.done c.in-Continue.is c.if-last.true refl;
-      lent = lent_twice c.loop-answer.invariant.lent c.step.ensures.lent;
-    }
+pub returns-then-last-clause-done : goal.returns-then-last-clause-done
+returns-then-last-clause-done c = walk_last c.loop-answer.invariant c.component_len-k.ensures refl refl c.front-below.ensures c.front-name.ensures c.step.ensures.done c.in-Continue.is c.if-last.true refl
 
 pub loop-answer-preserved : goal.loop-answer-preserved
 loop-answer-preserved c = walk_next c.loop-answer.invariant c.component_len-k.ensures refl refl c.front-below.ensures c.front-name.ensures c.step.ensures.done c.in-Continue.is c.if-last.false c.step.ensures.lent c.tail-p.ensures

@@ -18,9 +18,6 @@ returns-then-path-eq0 c = measure_empty c.args.task (path_seen c.args.v c.args.s
 pub loop-answer-init : goal.loop-answer-init
 loop-answer-init c = measure_begin c.args.task c.args.v c.args.full.now c.args.path.now c.args.slot c.requires.0 c.requires.2 c.requires.3 c.requires.4 c.if-path-eq0.false c.counts_of.result c.counts_of.ensures
 
-pub overflow_sub-end : goal.overflow_sub-end
-overflow_sub-end c = omega (arith, front_long c.loop-answer.invariant.front)
-
 pub overflow_add-end : goal.overflow_add-end
 overflow_add-end c = omega (arith, front_long c.loop-answer.invariant.front, piece_short c.loop-answer.p.now c.component_len-k.result c.component_len-k.ensures)
 

@@ -4,12 +4,9 @@ use Rattle.model.specs.Tree.{Tree}
 use Rattle.editor_walk.specs.Counted.{counts_as}
 use Rattle.editor_walk.specs.Levels.{Stands}
 use Rattle.editor_walk.specs.Tasks.{cached_seen}
-use Rattle.editor_walk.proofs.MeasureLaws.{step_empty, Sighted, step_past, step_stop, step_on}
+use Rattle.editor_walk.proofs.MeasureLaws.{Sighted, step_past, step_stop, step_on}
 use Rattle.editor_walk.proofs.measure.step.Goals as goal
 use Rattle.editor_walk.proofs.measure.step.Goals.{After-turned-u}
-
-pub returns-then-n-eq0 : goal.returns-then-n-eq0
-returns-then-n-eq0 c = λ t h. step_empty c.args.task c.args.last c.args.below.now c.args.name.now t (cached_seen c.args.v) (counts_as c.args.stage.counts) c.if-n-eq0.true
 
 -- what was seen in the tree at hand, the turn and the counts
 sighted : (c : After-turned-u) (t : Tree) → Stands c.args.v.tlens.now c.args.v.trees.now c.args.stage.level t
@@ -21,9 +18,6 @@ returns-then-not-within c = λ t h. step_past (sighted (goal.at.returns-then-not
 
 pub returns-then-not-goes_down : goal.returns-then-not-goes_down
 returns-then-not-goes_down c = λ t h. step_stop (sighted (goal.at.returns-then-not-goes_down c).After-turned-u t h) (sym c.within.ensures ∙ c.if-not-within.false) (sym (c.goes_down.ensures c.args.name.now t) ∙ c.if-not-goes_down.true) c.answer.ensures
-
-pub go_down-requires : goal.go_down-requires
-go_down-requires c = (c.requires.0, c.requires.1, sym c.within.ensures ∙ c.if-not-within.false, c.requires.5)
 
 pub returns : goal.returns
 returns c = λ t h. step_on (sighted (goal.at.returns c).After-turned-u t h) (sym c.within.ensures ∙ c.if-not-within.false) (sym (c.goes_down.ensures c.args.name.now t) ∙ c.if-not-goes_down.false) (c.go_down.ensures c.args.v.tlens.now c.args.v.trees.now c.requires.2.all)
