@@ -111,7 +111,7 @@ fn go_down<'a>(
     landed(landing, below.len(), u)
 }
 
-// One step: the edit at the component `name`, with the path `below` of the tree below it.
+// One step: the edit at the component `name`, with the path `below` of the tree below it. It ends the walk with an answer, or goes on; refused where it passes a limit.
 fn step<'a>(
     v: View<'_>,
     task: Task<'a>,
