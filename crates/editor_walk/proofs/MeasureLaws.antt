@@ -8,7 +8,6 @@ use Rattle.std.specs.Prelude.{Option as Opt, Result, Ok, Err, IsErrAnd}
 use Rattle.std.proofs.lemmas.Result.{err_from_is_err_and}
 use native.Mathlib.Omega.{arith}
 use lib.Dec.{eqb}
-use borrow.Author.Tests.{eq-eqb, ne_eqb}
 use lib.ListN.{length, take, drop}
 use Rattle.model.specs.Bytes.{Bytes, is_nil}
 use Rattle.model.specs.Map.{find}
@@ -350,15 +349,12 @@ module _ {task : Task} {v : View} {whole : Bytes} {goal : Measured} {p : Bytes} 
     goes_on_lem : Says (Ok (Continue stage))
     goes_on_lem = subst Says f stepped.says
 
-    pub measure_last : k ≡ length p → {answer : Answer} → code_number answer ≡ 0 → MeasuredAs goal (Ok answer)
-    measure_last h z = let y = goes_on_lem in stopped (step ∙ y.3 rest_of_lem ∙ last_over (eb ∙ eq-eqb k (length p) h) y.0 (counts_as stage.counts) ∙ sym (ap over z))
+    pub measure_last : b ≡ true → {answer : Answer} → code_number answer ≡ 0 → MeasuredAs goal (Ok answer)
+    measure_last h z = let y = goes_on_lem in stopped (step ∙ y.3 rest_of_lem ∙ last_over h y.0 (counts_as stage.counts) ∙ sym (ap over z))
 
-    module _ (h : k ≡ length p → ⊥) where
-      earlier : b ≡ false
-      earlier = eb ∙ ne_eqb k (length p) h
-
+    module _ (h : b ≡ false) where
       pub measure_shorter : k < length p
-      measure_shorter = not_last p k ek eb earlier
+      measure_shorter = not_last p k ek eb h
 
       pub measure_next : {p' : Bytes} → p' ≡ drop (k + 1) p → Measuring task v whole goal p' stage
       measure_next {p'} ep =
@@ -371,5 +367,5 @@ module _ {task : Task} {v : View} {whole : Bytes} {goal : Measured} {p : Bytes} 
             room = y.2;
             so_far = q;
             front = front_next s.front k j (piece_slash p k ek j) n;
-            rest = step ∙ y.3 rest_of_lem ∙ ap (λ (z : Bool). measured_for task (rest_of z p k) q y.0 c (counts_as stage.counts)) earlier;
+            rest = step ∙ y.3 rest_of_lem ∙ ap (λ (z : Bool). measured_for task (rest_of z p k) q y.0 c (counts_as stage.counts)) h;
           })

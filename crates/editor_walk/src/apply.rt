@@ -141,12 +141,8 @@ pub fn walk(
     let mut p = path;
     let mut at = slot;
     loop {
-        let k = names::path::component_len(p);
-        let last = k == p.len();
-        let end = full.len() - p.len() + k;
-        let below = names::part::front(full, end);
-        let name = names::part::front(p, k);
-        match step(s, task, below, name, last, at) {
+        let here = crate::component::first(full, p);
+        match step(s, task, here.below, here.name, here.last, at) {
             ControlFlow::Break(answer) => {
                 return answer;
             }
@@ -154,10 +150,10 @@ pub fn walk(
                 at = next;
             }
         }
-        if last {
+        if here.last {
             return Ok(());
         }
-        p = names::path::tail(p, k);
+        p = here.rest;
     }
 }
 

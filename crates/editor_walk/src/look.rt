@@ -53,13 +53,8 @@ pub fn look(v: View<'_>, full: &[u8], path: &[u8], slot: usize) -> Option<Seen>
     let mut p = path;
     let mut at = slot;
     loop {
-        let k = names::path::component_len(p);
-        let last = k == p.len();
-        let end = full.len() - p.len() + k;
-        let tree = v.tree_in(at);
-        let below = names::part::front(full, end);
-        let name = names::part::front(p, k);
-        match look_in(v, tree, below, name, last) {
+        let here = crate::component::first(full, p);
+        match look_in(v, v.tree_in(at), here.below, here.name, here.last) {
             ControlFlow::Break(found) => {
                 return found;
             }
@@ -67,6 +62,6 @@ pub fn look(v: View<'_>, full: &[u8], path: &[u8], slot: usize) -> Option<Seen>
                 at = slot_below;
             }
         }
-        p = names::path::tail(p, k);
+        p = here.rest;
     }
 }

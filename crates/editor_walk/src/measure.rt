@@ -163,12 +163,8 @@ pub fn measure(
         counts: crate::counts::counts_of(v.ed),
     };
     loop {
-        let k = names::path::component_len(p);
-        let last = k == p.len();
-        let end = full.len() - p.len() + k;
-        let below = names::part::front(full, end);
-        let name = names::part::front(p, k);
-        match step(v, task, below, name, last, stage)? {
+        let here = crate::component::first(full, p);
+        match step(v, task, here.below, here.name, here.last, stage)? {
             ControlFlow::Break(answer) => {
                 return Ok(answer);
             }
@@ -176,9 +172,9 @@ pub fn measure(
                 stage = next;
             }
         }
-        if last {
+        if here.last {
             return Ok(Ok(()));
         }
-        p = names::path::tail(p, k);
+        p = here.rest;
     }
 }
