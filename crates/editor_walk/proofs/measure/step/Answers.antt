@@ -10,14 +10,14 @@ use Rattle.editor_walk.proofs.measure.step.Goals.{After-turned-u}
 
 -- what was seen in the tree at hand, the turn and the counts
 sighted : (c : After-turned-u) (t : Tree) → Stands c.args.v.tlens.now c.args.v.trees.now c.args.stage.level t
-    → Sighted c.args.task c.args.last c.args.below.now c.args.name.now (cached_seen c.args.v) (counts_as c.args.stage.counts) c.seen_at-seen.result c.turn-turn.result t (counts_as c.turned-u.result)
-sighted c t h = record { turn = c.turn-turn.ensures; sees = c.seen_at-seen.ensures.is t h; bytes = c.if-n-eq0.false; counts = c.turned-u.ensures c.args.name.now refl }
+    → Sighted c.args.task c.args.here.last c.args.here.below.now c.args.here.name.now (cached_seen c.args.v) (counts_as c.args.stage.counts) c.seen_at-seen.result c.turn-turn.result t (counts_as c.turned-u.result)
+sighted c t h = record { turn = c.turn-turn.ensures; sees = c.seen_at-seen.ensures.is t h; bytes = c.if-n-eq0.false; counts = c.turned-u.ensures c.args.here.name.now refl }
 
 pub returns-then-not-within : goal.returns-then-not-within
 returns-then-not-within c = λ t h. step_past (sighted (goal.at.returns-then-not-within c).After-turned-u t h) c.requires.7 (sym c.within.ensures ∙ c.if-not-within.true)
 
 pub returns-then-not-goes_down : goal.returns-then-not-goes_down
-returns-then-not-goes_down c = λ t h. step_stop (sighted (goal.at.returns-then-not-goes_down c).After-turned-u t h) (sym c.within.ensures ∙ c.if-not-within.false) (sym (c.goes_down.ensures c.args.name.now t) ∙ c.if-not-goes_down.true) c.answer.ensures
+returns-then-not-goes_down c = λ t h. step_stop (sighted (goal.at.returns-then-not-goes_down c).After-turned-u t h) (sym c.within.ensures ∙ c.if-not-within.false) (sym (c.goes_down.ensures c.args.here.name.now t) ∙ c.if-not-goes_down.true) c.answer.ensures
 
 pub returns : goal.returns
-returns c = λ t h. step_on (sighted (goal.at.returns c).After-turned-u t h) (sym c.within.ensures ∙ c.if-not-within.false) (sym (c.goes_down.ensures c.args.name.now t) ∙ c.if-not-goes_down.false) (c.go_down.ensures c.args.v.tlens.now c.args.v.trees.now c.requires.2.all)
+returns c = λ t h. step_on (sighted (goal.at.returns c).After-turned-u t h) (sym c.within.ensures ∙ c.if-not-within.false) (sym (c.goes_down.ensures c.args.here.name.now t) ∙ c.if-not-goes_down.false) (c.go_down.ensures c.args.v.tlens.now c.args.v.trees.now c.requires.2.all)
