@@ -1,19 +1,16 @@
 -- Laws of going down: what was found decides what the walk enters, and what is cached is what the model caches. Assumes nothing.
 use Prim.Native.Nat.{ℕ}
-use mathlib.Core.Path.{◌≡◌, refl, sym, ap, ap₂, ◌∙◌, subst}
+use mathlib.Core.Path.{◌≡◌, refl, sym, ap, ◌∙◌, subst}
 use mathlib.Core.List.{[]}
 use mathlib.Core.Bool.{true}
-use mathlib.Core.Option.{Option, none, some}
+use mathlib.Core.Option.{Option}
 use Rattle.model.specs.Bytes.{Bytes}
-use Rattle.model.specs.Raw.{read_tree}
-use Rattle.names.specs.Check.{TreeSize, size_of}
-use Rattle.model.specs.Map.{find, put}
-use Rattle.model.specs.Tree.{Tree}
+use Rattle.model.specs.Map.{put}
 use Rattle.model.specs.Table.{Table}
 use Rattle.model.specs.Editor.{at, Cache, ◌↝◌, fits}
 use Rattle.model.specs.Formats.{sha1}
 use Rattle.model.specs.Walk.{Edit, is_leaf_removal, Entered, halt, into, enter, Walked, ended, stepped, below}
-use Rattle.model.proofs.Basics.{and_left, and_right, some_inj}
+use Rattle.model.proofs.Basics.{and_left, and_right}
 use Rattle.store_runs.specs.Digits.{digits}
 use Rattle.store_runs.specs.Runs.{cut}
 use Rattle.store_slots.specs.declared.Record.{Record}
@@ -23,12 +20,11 @@ use Rattle.store_slots.specs.Stores.{LaidIn, SameLent, view_in}
 use Rattle.editor_terms.specs.Answers.{Answer, code_number}
 use Rattle.std.specs.declared.ops.ControlFlow.{ControlFlow}
 use Rattle.std.specs.declared.ops.ControlFlow.TheVariants.{Continue, Break}
-use Rattle.editor_walk.specs.Landings.{caches, stops, planned, RawIs, LandsAs}
-use Rattle.editor_walk.specs.declared.land.Raw.{Raw}
+use Rattle.editor_walk.specs.Landings.{caches, stops, planned, LandsAs}
 use Rattle.editor_walk.specs.declared.land.Landing.{Landing}
 use Rattle.editor_walk.specs.declared.land.Landing.TheVariants.{There, Fresh, Load, Halt}
 use Rattle.editor_walk.proofs.LandLaws.{enter_there, enter_new, there_slot, fresh_plan, load_plan, halt_plan}
-use Rattle.editor_walk.specs.Steps.{StandingIn, LandFits, OnAt, LandLeaves, Descended, down_as, Fitting, StepEnds, SteppedAs}
+use Rattle.editor_walk.specs.Steps.{StandingIn, LandFits, OnAt, Descended, down_as, Fitting, StepEnds, SteppedAs}
 
 pub same_write : (r : Record) → SameWrite r r
 same_write r = record { «open» = refl; aside = refl; stacked = refl; asked = refl }
@@ -38,46 +34,6 @@ write_twice a b = record { «open» = b.«open» ∙ a.«open»; aside = b.aside
 
 pub lent_twice : {s t u : Store} → SameLent s t → SameLent t u → SameLent s u
 lent_twice a b = record { plens = b.plens ∙ a.plens; paths = b.paths ∙ a.paths; tlens = b.tlens ∙ a.tlens; trees = b.trees ∙ a.trees }
-
--- going down, by what was found
-module _ (s : Store) (q : Bytes) (x : Landing) (f : LandFits s q x) where
-  abbrev view : Cache
-  view = view_in 20 s
-
-  module _ (L : LaidIn 20 s) (cl : s.ed.hidden ≡ s.ed.free) where
-    stays : StandingIn s.ed s
-    stays = record { laid = L; closed = cl; write = same_write s.ed }
-
-    pub down_there : {k : ℕ} → x ≡ There k → Descended s q x (Continue k) s
-    down_there {k} e = record { stand = stays; leaves = subst (λ (z : Landing). LandLeaves q view s z (Continue k)) (sym e) (subst (λ (z : Landing). LandFits s q z) e f, refl) }
-
-    pub down_halt : {answer : Answer} → x ≡ Halt answer → Descended s q x (Break answer) s
-    down_halt {answer} e = record { stand = stays; leaves = subst (λ (z : Landing). LandLeaves q view s z (Break answer)) (sym e) (refl, refl) }
-
-  pub fresh_fits : x ≡ Fresh → (find at q view ≡ none) × (fits (put at (q ↝ []) view) ≡ true)
-  fresh_fits e = subst (λ (z : Landing). LandFits s q z) e f
-
-  pub load_fits : {y : Raw} → x ≡ Load y → (find at q view ≡ none) × ((t : Tree) × RawIs y t × (fits (put at (q ↝ t) view) ≡ true))
-  load_fits {y} e = subst (λ (z : Landing). LandFits s q z) e f
-
-  module _ {s' : Store} {k : ℕ} (st : StandingIn s.ed s') (at_slot : OnAt s' q (Continue k)) where
-    pub down_fresh : x ≡ Fresh → view_in 20 s' ≡ put at (q ↝ []) view → Descended s q x (Continue k) s'
-    down_fresh e v = record { stand = st; leaves = subst (λ (z : Landing). LandLeaves q view s' z (Continue k)) (sym e) (at_slot, v) }
-
-    pub down_load : {y : Raw} → x ≡ Load y → ((t : Tree) → RawIs y t → view_in 20 s' ≡ put at (q ↝ t) view) → Descended s q x (Continue k) s'
-    down_load {y} e v = record { stand = st; leaves = subst (λ (z : Landing). LandLeaves q view s' z (Continue k)) (sym e) (at_slot, v) }
-
--- the raw tree that was found
-module _ {y : Raw} {t : Tree} (k : RawIs y t) where
-  size : ℕ → ℕ → Option TreeSize
-  size a b = some (record { entries = a; bytes = b })
-
-  pub raw_size : size_of (read_tree 20 y.bytes.now) ≡ some (record { entries = y.size.entries; bytes = y.size.name_bytes })
-  unfolding size
-  raw_size = ap size_of k.reads ∙ ap₂ (λ (a b : ℕ). size a b) (sym k.entries) (sym k.names)
-
-  pub raw_fits : (q : Bytes) (c : Cache) → fits (put at (q ↝ t) c) ≡ true → (s : Tree) → read_tree 20 y.bytes.now ≡ some s → fits (put at (q ↝ s) c) ≡ true
-  raw_fits q c f s h = ap (λ (z : Tree). fits (put at (q ↝ z) c)) (sym (some_inj t s (sym k.reads ∙ h))) ∙ f
 
 -- what the model enters
 below_into : (next : Cache → Walked) (c d : Cache) (x : Entered) → x ≡ into d → below next c x ≡ stepped d (next d)

@@ -125,21 +125,6 @@ module _ (T : Table) (i : Bytes) (x : Opt (Bor Bytes)) (f : looked_up 20 T i ≡
           let (t, r, en, nn) = size_inv (read_tree 20 raw.now) (record { entries = size.entries; bytes = size.name_bytes }) (sym (ap checked_as b) ∙ s) in
           (t, record { reads = r; entries = en; names = nn }, plan_is ∙ ap tree_plan r)
 
--- an id that is given
-module _ (T : Table) (leaf : Bool) (i : Bytes) where
-  pub plan_other : {b : Bool} → b ≡ same i sha1.empty_id → b ≡ false → planned sha1 T leaf (some i) ≡ read_plan sha1 (looked_up sha1.width T i)
-  plan_other e f = ap (λ (z : Bool). pick_plan z (pick_plan leaf (stops 0) (caches [])) (read_plan sha1 (looked_up sha1.width T i))) (sym e ∙ f)
-
-  pub plan_empty : {b : Bool} → b ≡ same i sha1.empty_id → b ≡ true → planned sha1 T leaf (some i) ≡ pick_plan leaf (stops 0) (caches [])
-  plan_empty e f = ap (λ (z : Bool). pick_plan z (pick_plan leaf (stops 0) (caches [])) (read_plan sha1 (looked_up sha1.width T i))) (sym e ∙ f)
-
--- no slot is at the path
-pub lands_new : (x : Plan) (ds : List ℕ) (ps : List Bytes) (q : Bytes) (r : Landing) → SlotFound ds ps q None → PlanIs x r → LandsAs x ds ps q r
-lands_new x ds ps q (There slot) f p = absurd p
-lands_new x ds ps q Fresh f p = (f, p)
-lands_new x ds ps q (Load r) f p = (f, p)
-lands_new x ds ps q (Halt answer) f p = (f, p)
-
 -- for a caller: what the answer says, in a store with no write open
 module _ (T : Table) (e : Edit) (i : Option Bytes) {r : Record} {plens paths tlens trees : List ℕ} (L : Laid 20 r plens paths tlens trees) (cl : r.hidden ≡ r.free) (q : Bytes) (x : Landing)
     (l : LandsAs (planned sha1 T (is_leaf_removal e) i) (digits 64 r.hidden) (cut plens paths) q x) where

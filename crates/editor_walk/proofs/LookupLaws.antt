@@ -1,7 +1,7 @@
 -- Laws of lookups: what is left of the path decides, from the tree in the slot at hand. Assumes nothing.
 use Prim.Native.Nat.{ℕ, ◌+◌, ◌-◌, ◌<◌}
 use mathlib.Core.Path.{◌≡◌, refl, sym, ap, ap₂, ◌∙◌, subst}
-use mathlib.Core.List.{List, [], ◌∷◌}
+use mathlib.Core.List.{List}
 use mathlib.Core.Bool.{Bool, true, false, ◌&&◌}
 use mathlib.Core.Option.{Option, none, some}
 use native.Mathlib.Omega.{arith}
@@ -110,10 +110,6 @@ pub record Looking (r : Record) (plens paths tlens trees : List ℕ) (whole : By
   pub front : Front whole (path_of plens paths slot) p
   pub named : base p ≡ base path
   pub rest : goal ≡ look (pieces p) (path_of plens paths slot) (view_of 20 r plens paths tlens trees)
-
-pub look_empty : (path q : Bytes) (c : Cache) → length path ≡ 0 → model.missing ≡ look (components path) q c
-look_empty [] q c e = refl
-look_empty (b ∷ bs) q c e = absurd (omega (arith, e))
 
 pub look_begin : (r : Record) (plens paths tlens trees : List ℕ) (whole path : Bytes) (slot : ℕ) → Used r slot → whole ≡ full (path_of plens paths slot) path → (length path ≡ 0 → ⊥) →
     Looking r plens paths tlens trees whole (look (components path) (path_of plens paths slot) (view_of 20 r plens paths tlens trees)) path path slot

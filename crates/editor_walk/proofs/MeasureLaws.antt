@@ -8,7 +8,6 @@ use Rattle.std.specs.Prelude.{Option as Opt, Result, Ok, Err, IsErrAnd}
 use Rattle.std.proofs.lemmas.Result.{err_from_is_err_and}
 use native.Mathlib.Omega.{arith}
 use lib.Dec.{eqb}
-use borrow.Author.Tests.{eq-eqb, ne_eqb}
 use lib.ListN.{length, take, drop}
 use Rattle.model.specs.Bytes.{Bytes, is_nil}
 use Rattle.model.specs.Map.{find}
@@ -30,10 +29,9 @@ use Rattle.store_runs.proofs.FindLaws.{cut_at}
 use Rattle.store_runs.specs.Runs.{cut, run_of}
 use Rattle.store_runs.proofs.RunLaws.{length_cut}
 use Rattle.store_slots.specs.declared.Record.{Record}
-use Rattle.store_slots.specs.View.{slots_of, gather, view_of, Laid, Used, path_of, tree_of}
+use Rattle.store_slots.specs.View.{slots_of, gather, Laid, Used, tree_of}
 use Rattle.store_slots.specs.declared.View.{View}
 use Rattle.store_slots.specs.Stores.{LaidSeen}
-use Rattle.store_slots.specs.View.{cached_of}
 use Rattle.store_slots.proofs.Cached.{cached_view}
 use Rattle.store_slots.proofs.Relaid.{find_slot}
 use Rattle.store_slots.proofs.Changes.{searched_run}
@@ -41,10 +39,9 @@ use Rattle.model.proofs.SoundTrees.{sound_well}
 use Rattle.std.specs.declared.ops.ControlFlow.{ControlFlow}
 use Rattle.std.specs.declared.ops.ControlFlow.TheVariants.{Continue, Break}
 use Rattle.editor_terms.specs.Answers.{Answer, code_number}
-use Rattle.editor_terms.specs.Edits.{as_edit, parts_of, seen_as, turn_as, goes_on, wanted_by, ends_with, counts_after, sight_as, TurnIs}
+use Rattle.editor_terms.specs.Edits.{parts_of, seen_as, turn_as, goes_on, wanted_by, ends_with, counts_after, sight_as, TurnIs}
 use Rattle.editor_terms.specs.declared.refusal.Refusal.{Refusal}
-use Rattle.editor_terms.specs.declared.refusal.Refusal.TheVariants.{EmptyComponent, NoRoom}
-use Rattle.editor_terms.specs.declared.edit.Edit.{Edit}
+use Rattle.editor_terms.specs.declared.refusal.Refusal.TheVariants.{NoRoom}
 use Rattle.editor_terms.specs.declared.edit.Seen.{Seen}
 use Rattle.editor_terms.specs.declared.edit.Turn.{Turn}
 use Rattle.editor_terms.specs.declared.edit.Turn.TheVariants.{Stop, Cut, Put, Down}
@@ -60,7 +57,7 @@ use Rattle.editor_walk.specs.declared.measure.Level.{Level}
 use Rattle.editor_walk.specs.declared.measure.Level.TheVariants.{Slot, Raw, Empty}
 use Rattle.editor_walk.specs.declared.measure.Stage.{Stage}
 use Rattle.editor_walk.specs.Levels.{step_for}
-use Rattle.editor_walk.specs.Tasks.{edit_for, measure_for, path_seen, table_for, view_seen}
+use Rattle.editor_walk.specs.Tasks.{cached_seen, edit_for, measure_for, path_seen, table_for, view_seen}
 use Rattle.editor_walk.specs.declared.task.Task.{Task}
 use Rattle.editor_walk.proofs.ComponentLaws.{components_some, rest_of, rest_nil, not_last, pieces_are}
 use Rattle.editor_walk.proofs.CountLaws.{counts_view, counts_room, many_entries, many_names}
@@ -218,33 +215,40 @@ module _ (T : Table) (e : walk.Edit) (q : Bytes) (o : Option Held) (n : Bytes) (
   sight_on (Down i) b t w h = counted_on (counts_after (Down i) s n u) _ w
 
 -- one step
-pub step_empty : (T : Table) (e : walk.Edit) (opening b : Bool) (q n : Bytes) (t : Tree) (c : Cache) (u : Counts) {tlens trees : List ℕ} → length n ≡ 0 →
-    StepIs tlens trees (step_as T e opening b q n t c u) (Ok (Break (Err EmptyComponent)))
-step_empty T e opening b q [] t c u z = record { says = λ next. refl }
-step_empty T e opening b q (x ∷ n) t c u z = absurd (omega (arith, z))
-
 pub nil_length : (n : Bytes) → (length n ≡ 0 → ⊥) → is_nil n ≡ false
 nil_length [] h = absurd (h refl)
 nil_length (x ∷ n) h = refl
 
-module _ (T : Table) (edit : Edit) (opening b : Bool) (q n : Bytes) (c : Cache) (u : Counts) (s : Opt Seen) (r : Turn) (ti : TurnIs edit b s r) (t : Tree) (es : seen_as s ≡ parts_of (entry_of n t))
-    (bytes : length n ≡ 0 → ⊥) (v : Counts) (ev : v ≡ counts_after r s n u) where
-  at_sight : (next : Next) → step_as T (as_edit edit) opening b q n t c u next ≡ on_sight sha1 T (as_edit edit) opening q (find at q c) next (sight_as r b s n u)
+-- at a component of some bytes of the tree t: what was seen of its entry, the turn, and the counts after it
+pub record Sighted (task : Task) (b : Bool) (q n : Bytes) (c : Cache) (u : Counts) (s : Opt Seen) (r : Turn) (t : Tree) (v : Counts) : Type 0 where
+  pub turn : TurnIs task.edit b s r
+  pub sees : seen_as s ≡ parts_of (entry_of n t)
+  pub bytes : length n ≡ 0 → ⊥
+  pub counts : v ≡ counts_after r s n u
+
+module _ {task : Task} {b : Bool} {q n : Bytes} {c : Cache} {u : Counts} {s : Opt Seen} {r : Turn} {t : Tree} {v : Counts} (y : Sighted task b q n c u s r t v) where
+  abbrev table : Table
+  table = table_for task
+
+  abbrev edit : walk.Edit
+  edit = edit_for task
+
+  at_sight : (next : Next) → step_for task b q n t c u next ≡ on_sight sha1 table edit task.opening q (find at q c) next (sight_as r b s n u)
   at_sight next =
-      ap (λ (z : Bool). pick_measured z (over 1) (on_sight sha1 T (as_edit edit) opening q (find at q c) next (seen b (as_edit edit) n u (entry_of n t)))) (nil_length n bytes)
-      ∙ ap (on_sight sha1 T (as_edit edit) opening q (find at q c) next) (ti.counts n u (entry_of n t) es)
+      ap (λ (z : Bool). pick_measured z (over 1) (on_sight sha1 table edit task.opening q (find at q c) next (seen b edit n u (entry_of n t)))) (nil_length n y.bytes)
+      ∙ ap (on_sight sha1 table edit task.opening q (find at q c) next) (y.turn.counts n u (entry_of n t) y.sees)
 
   module _ {tlens trees : List ℕ} where
-    pub step_past : within u ≡ true → within v ≡ false → StepIs tlens trees (step_as T (as_edit edit) opening b q n t c u) (Err NoRoom)
-    step_past w h = record { says = (refl, λ next. ap (λ (z : Measured). z.kept) (at_sight next) ∙ sight_past T (as_edit edit) q (find at q c) n u s opening next r b w (ap within (sym ev) ∙ h)) }
+    pub step_past : within u ≡ true → within v ≡ false → StepIs tlens trees (step_for task b q n t c u) (Err NoRoom)
+    step_past w h = record { says = (refl, λ next. ap (λ (z : Measured). z.kept) (at_sight next) ∙ sight_past table edit q (find at q c) n u s task.opening next r b w (ap within (sym y.counts) ∙ h)) }
 
-    pub step_stop : within v ≡ true → goes_on opening (turn_as r b n t) ≡ false → {answer : Answer} → code_number answer ≡ ends_with r → StepIs tlens trees (step_as T (as_edit edit) opening b q n t c u) (Ok (Break answer))
-    step_stop w h ea = record { says = λ next. at_sight next ∙ sight_stop T (as_edit edit) q (find at q c) n u s opening next r b t (ap within (sym ev) ∙ w) h ∙ sym (ap over ea) }
+    pub step_stop : within v ≡ true → goes_on task.opening (turn_as r b n t) ≡ false → {answer : Answer} → code_number answer ≡ ends_with r → StepIs tlens trees (step_for task b q n t c u) (Ok (Break answer))
+    step_stop w h ea = record { says = λ next. at_sight next ∙ sight_stop table edit q (find at q c) n u s task.opening next r b t (ap within (sym y.counts) ∙ w) h ∙ sym (ap over ea) }
 
-    pub step_on : within v ≡ true → goes_on opening (turn_as r b n t) ≡ true → {g : Result (ControlFlow Answer Stage) Refusal} → StepIs tlens trees (down_as T (as_edit edit) q (wanted_by r) c v) g → StepIs tlens trees (step_as T (as_edit edit) opening b q n t c u) g
+    pub step_on : within v ≡ true → goes_on task.opening (turn_as r b n t) ≡ true → {g : Result (ControlFlow Answer Stage) Refusal} → StepIs tlens trees (down_as table edit q (wanted_by r) c v) g → StepIs tlens trees (step_for task b q n t c u) g
     step_on w h {g} k =
         step_same g (λ next.
-        at_sight next ∙ sight_on T (as_edit edit) q (find at q c) n u s opening next r b t (ap within (sym ev) ∙ w) h ∙ ap (λ (z : Counts). down_as T (as_edit edit) q (wanted_by r) c z next) (sym ev)) k
+        at_sight next ∙ sight_on table edit q (find at q c) n u s task.opening next r b t (ap within (sym y.counts) ∙ w) h ∙ ap (λ (z : Counts). down_as table edit q (wanted_by r) c z next) (sym y.counts)) k
 
 -- the trees of a store that is laid out
 pub stored : {r : Record} {plens paths tlens trees : List ℕ} → Laid 20 r plens paths tlens trees → Stored r.trees tlens trees
@@ -299,7 +303,7 @@ stops_here T e opening b q (x ∷ n) t c u v s h = refl
 
 module _ {task : Task} {v : View} {whole : Bytes} {goal : Measured} {p : Bytes} {at_hand : Stage} (s : Measuring task v whole goal p at_hand) {k : ℕ} (ek : k ≡ length (first_piece p)) {b : Bool} (eb : b ≡ eqb k (length p))
     {end : ℕ} (ee : end ≡ length whole - length p + k) {below name : Bytes} (ew : below ≡ take end whole) (en : name ≡ take k p) (cl : v.ed.hidden ≡ v.ed.free)
-    {g : Result (ControlFlow Answer Stage) Refusal} (gi : StepIs v.tlens.now v.trees.now (step_for task b below name s.tree (cached_of 20 v.ed v.plens.now v.paths.now v.tlens.now v.trees.now) (counts_as at_hand.counts)) g) where
+    {g : Result (ControlFlow Answer Stage) Refusal} (gi : StepIs v.tlens.now v.trees.now (step_for task b below name s.tree (cached_seen v) (counts_as at_hand.counts)) g) where
   abbrev c : Cache
   c = view_seen v
 
@@ -345,15 +349,12 @@ module _ {task : Task} {v : View} {whole : Bytes} {goal : Measured} {p : Bytes} 
     goes_on_lem : Says (Ok (Continue stage))
     goes_on_lem = subst Says f stepped.says
 
-    pub measure_last : k ≡ length p → {answer : Answer} → code_number answer ≡ 0 → MeasuredAs goal (Ok answer)
-    measure_last h z = let y = goes_on_lem in stopped (step ∙ y.3 rest_of_lem ∙ last_over (eb ∙ eq-eqb k (length p) h) y.0 (counts_as stage.counts) ∙ sym (ap over z))
+    pub measure_last : b ≡ true → {answer : Answer} → code_number answer ≡ 0 → MeasuredAs goal (Ok answer)
+    measure_last h z = let y = goes_on_lem in stopped (step ∙ y.3 rest_of_lem ∙ last_over h y.0 (counts_as stage.counts) ∙ sym (ap over z))
 
-    module _ (h : k ≡ length p → ⊥) where
-      earlier : b ≡ false
-      earlier = eb ∙ ne_eqb k (length p) h
-
+    module _ (h : b ≡ false) where
       pub measure_shorter : k < length p
-      measure_shorter = not_last p k ek eb earlier
+      measure_shorter = not_last p k ek eb h
 
       pub measure_next : {p' : Bytes} → p' ≡ drop (k + 1) p → Measuring task v whole goal p' stage
       measure_next {p'} ep =
@@ -366,5 +367,5 @@ module _ {task : Task} {v : View} {whole : Bytes} {goal : Measured} {p : Bytes} 
             room = y.2;
             so_far = q;
             front = front_next s.front k j (piece_slash p k ek j) n;
-            rest = step ∙ y.3 rest_of_lem ∙ ap (λ (z : Bool). measured_for task (rest_of z p k) q y.0 c (counts_as stage.counts)) earlier;
+            rest = step ∙ y.3 rest_of_lem ∙ ap (λ (z : Bool). measured_for task (rest_of z p k) q y.0 c (counts_as stage.counts)) h;
           })

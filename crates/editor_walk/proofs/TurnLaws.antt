@@ -33,9 +33,8 @@ use Rattle.store_entries.specs.Entries.{EditedIn}
 use Rattle.std.specs.declared.ops.ControlFlow.{ControlFlow}
 use Rattle.std.specs.declared.ops.ControlFlow.TheVariants.{Continue, Break}
 use Rattle.editor_terms.specs.Answers.{Answer, code_number}
-use Rattle.editor_terms.specs.Edits.{as_edit, changed, looks, parts_of, seen_as, turn_as, goes_on, wanted_by, ends_with, TurnIs}
+use Rattle.editor_terms.specs.Edits.{changed, looks, parts_of, seen_as, turn_as, goes_on, wanted_by, ends_with, TurnIs}
 use Rattle.editor_terms.specs.declared.refusal.Refusal.TheVariants.{EmptyComponent}
-use Rattle.editor_terms.specs.declared.edit.Edit.{Edit}
 use Rattle.editor_terms.specs.declared.edit.Seen.{Seen}
 use Rattle.editor_terms.specs.declared.edit.Turn.{Turn}
 use Rattle.editor_terms.specs.declared.edit.Turn.TheVariants.{Stop, Cut, Put, Down}

@@ -5,19 +5,16 @@ use mathlib.Core.List.{List, [], ◌∷◌}
 use mathlib.Core.Bool.{Bool, true, false, not, ◌||◌}
 use native.Mathlib.Omega.{arith}
 use lib.Dec.{eqb, leb}
-use borrow.Author.Tests.{eq-eqb, ne_eqb}
 use lib.ListN.{length, take, drop}
 use Rattle.model.specs.Bytes.{Bytes, is_nil, has, by}
 use Rattle.model.specs.Tree.{good_name}
 use Rattle.model.specs.Paths.{pieces, components, join, full, some_long, refused}
-use Rattle.model.specs.Table.{Table}
 use Rattle.model.specs.Editor.{Cache, tree_at}
 use Rattle.model.specs.Formats.{sha1}
 use Rattle.model.specs.Tree.{null}
-use Rattle.model.specs.Walk.{Edit, Walked, ended, turned, turn, pick_walked, walk}
+use Rattle.model.specs.Walk.{Walked, ended, turned, turn, pick_walked}
 use Rattle.model.proofs.Basics.{or_left, or_right, not_false, no_way}
 use Rattle.names.specs.Places.{first_piece}
-use Rattle.store_slots.specs.declared.Record.{Record}
 use Rattle.store_slots.specs.declared.Store.{Store}
 use Rattle.store_slots.specs.View.{Used}
 use Rattle.store_slots.specs.Stores.{LaidIn, SameLent, path_in_slot, view_in}
@@ -155,10 +152,10 @@ module _ {task : Task} {w : Walked} {s₀ : Store} {whole : Bytes} {s : Store} {
       goes_on : StepEnds (step_for task b here below name cache) below s' (Continue j)
       goes_on = subst (StepEnds (step_for task b here below name cache) below s') f d.ends
 
-      pub walk_last : k ≡ length p → {answer : Answer} → code_number answer ≡ 0 → WalkedAs s₀.ed w answer s'
+      pub walk_last : b ≡ true → {answer : Answer} → code_number answer ≡ 0 → WalkedAs s₀.ed w answer s'
       walk_last h z =
           let m = goes_on.1 rest_of_lem in
-          let y : rest_of_lem after ≡ ended 0 after = ap (λ (c : Bool). walk_for task (rest_of c p k) (join here (take k p)) after) (eb ∙ eq-eqb k (length p) h) in
+          let y : rest_of_lem after ≡ ended 0 after = ap (λ (c : Bool). walk_for task (rest_of c p k) (join here (take k p)) after) h in
           let x = ended_code 0 after in
           record {
             code = z ∙ sym (i.code ∙ ap (λ (c : Walked). c.code) step_is ∙ m.0 ∙ ap (λ (c : Walked). c.code) y ∙ x.0);
@@ -166,12 +163,9 @@ module _ {task : Task} {w : Walked} {s₀ : Store} {whole : Bytes} {s : Store} {
             stand = stand';
           }
 
-      module _ (h : k ≡ length p → ⊥) where
-        earlier : b ≡ false
-        earlier = eb ∙ ne_eqb k (length p) h
-
+      module _ (h : b ≡ false) where
         pub walk_shorter : k < length p
-        walk_shorter = not_last p k ek eb earlier
+        walk_shorter = not_last p k ek eb h
 
         some_name : (n : Bytes) → name ≡ n → is_nil n ≡ false
         some_name (x ∷ n) z = refl
@@ -186,7 +180,7 @@ module _ {task : Task} {w : Walked} {s₀ : Store} {whole : Bytes} {s : Store} {
             let v = goes_on.0 in
             let l = walk_shorter in
             let a : path_in_slot s' j ≡ join here (take k p) = v.1 ∙ down in
-            let o : (x : Bytes) → x ≡ join here (take k p) → rest_of_lem after ≡ walk_for task (pieces (drop (k + 1) p)) x after = λ x z. ap₂ (λ (c : Bool) (l : Bytes). walk_for task (rest_of c p k) l after) earlier (sym z) in
+            let o : (x : Bytes) → x ≡ join here (take k p) → rest_of_lem after ≡ walk_for task (pieces (drop (k + 1) p)) x after = λ x z. ap₂ (λ (c : Bool) (l : Bytes). walk_for task (rest_of c p k) l after) h (sym z) in
             subst (λ (z : Bytes). Walking task w s₀ whole s' z j) (sym ep) (record {
               lent = lent_twice i.lent l';
               stand = stand';
@@ -196,5 +190,5 @@ module _ {task : Task} {w : Walked} {s₀ : Store} {whole : Bytes} {s : Store} {
               now = i.now ∙ ap (λ (z : Walked). z.now) step_is ∙ m.1 ∙ ap (λ (z : Walked). z.now) (o (path_in_slot s' j) a);
               kept = sym (ap (λ (z : Walked). z.kept) (o (path_in_slot s' j) a)) ∙ m.2 (sym (ap (λ (z : Walked). z.kept) step_is) ∙ i.kept);
               nul = has_after 0 (k + 1) p i.nul;
-              short = sym (ap (λ (c : Bool). some_long (rest_of c p k)) earlier) ∙ or_right (not (leb (length (take k p)) 255)) (some_long (rest_of b p k)) shorts;
+              short = sym (ap (λ (c : Bool). some_long (rest_of c p k)) h) ∙ or_right (not (leb (length (take k p)) 255)) (some_long (rest_of b p k)) shorts;
             })

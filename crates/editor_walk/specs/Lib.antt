@@ -1,4 +1,5 @@
 -- Definitions that the contracts of `editor_walk` cite.
+pub mod Components
 pub mod Counted
 pub mod Landings
 pub mod Levels

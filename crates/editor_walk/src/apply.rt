@@ -16,6 +16,7 @@ ghost use Rattle.editor_terms.specs.Tables.{objects_in};
 ghost use Rattle.editor_walk.specs.Steps.{PutFits, LandFits, Descended, down_for, step_for, Fitting, SteppedAs, WalkedAs, editor_at, SettledAs};
 ghost use Rattle.editor_walk.specs.Tasks.{walk_for};
 
+use crate::component::Component;
 use crate::land::Landing;
 use crate::task::Task;
 use editor_terms::edit::{Edit, Seen, Turn};
@@ -94,31 +95,29 @@ fn seen_for(tree: &[u8], name: &[u8], edit: Edit, last: bool) -> Option<Seen>
     }
 }
 
-// One step: the edit at the component `name` of the tree in a slot, with the path `below` of the tree below it. It ends the walk with an answer, or the walk goes on in a slot.
+// One step: the edit at a component, in the tree in a slot. It ends the walk with an answer, or the walk goes on in a slot.
 fn step(
     s: &mut Store<'_>,
     task: Task<'_>,
-    below: &[u8],
-    name: &[u8],
-    last: bool,
+    here: Component<'_>,
     slot: usize,
 ) -> ControlFlow<Result<(), Refusal>, usize>
     requires { LaidIn 20 s.old × (s.old.ed.hidden ≡ s.old.ed.free) × Used s.old.ed slot
-        × ((length name.now ≡ 0 → ⊥) → good_name name.now ≡ true)
-        × Fitting (step_for task «last» (path_in_slot s.old slot) below.now name.now (view_in 20 s.old)) }
-    ensures done { SteppedAs s.old.ed (step_for task.entry «last» (path_in_slot s.old slot) below.now name.now (view_in 20 s.old)) below.now result s.new }
+        × ((length here.name.now ≡ 0 → ⊥) → good_name here.name.now ≡ true)
+        × Fitting (step_for task here.last (path_in_slot s.old slot) here.below.now here.name.now (view_in 20 s.old)) }
+    ensures done { SteppedAs s.old.ed (step_for task.entry here.entry.last (path_in_slot s.old slot) here.entry.below.now here.entry.name.now (view_in 20 s.old)) here.entry.below.now result s.new }
     ensures lent { SameLent s.old s.new }
 {
-    if name.len() == 0 {
+    if here.name.len() == 0 {
         return ControlFlow::Break(Err(Refusal::EmptyComponent));
     }
-    let seen = seen_for(s.view().tree_in(slot), name, task.edit, last);
-    let turn = task.edit.turn(last, seen);
-    apply(s, name, slot, turn);
-    if !turn.goes_down(last, task.opening) {
+    let seen = seen_for(s.view().tree_in(slot), here.name, task.edit, here.last);
+    let turn = task.edit.turn(here.last, seen);
+    apply(s, here.name, slot, turn);
+    if !turn.goes_down(here.last, task.opening) {
         return ControlFlow::Break(turn.answer());
     }
-    go_down(s, task, below, turn)
+    go_down(s, task, here.below, turn)
 }
 
 // The walk of an edit whose steps each fit, from the tree in a slot; `full` is that tree's path with the path.
@@ -141,12 +140,8 @@ pub fn walk(
     let mut p = path;
     let mut at = slot;
     loop {
-        let k = names::path::component_len(p);
-        let last = k == p.len();
-        let end = full.len() - p.len() + k;
-        let below = names::part::front(full, end);
-        let name = names::part::front(p, k);
-        match step(s, task, below, name, last, at) {
+        let here = crate::component::first(full, p);
+        match step(s, task, here, at) {
             ControlFlow::Break(answer) => {
                 return answer;
             }
@@ -154,10 +149,10 @@ pub fn walk(
                 at = next;
             }
         }
-        if last {
+        if here.last {
             return Ok(());
         }
-        p = names::path::tail(p, k);
+        p = here.rest;
     }
 }
 

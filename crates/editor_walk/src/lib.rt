@@ -2,6 +2,7 @@
 #![tactic(auto)]
 
 pub mod apply;
+pub mod component;
 pub mod counts;
 pub mod land;
 pub mod look;

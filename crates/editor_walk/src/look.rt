@@ -11,31 +11,26 @@ ghost use Rattle.store_slots.specs.View.{view_of, Used, path_of};
 ghost use Rattle.store_slots.specs.Stores.{KeysSound, LaidSeen};
 ghost use Rattle.editor_walk.specs.Lookups.{looked_as, LookStepIs};
 
+use crate::component::Component;
 use editor_terms::edit::Seen;
 use std::ops::ControlFlow;
 use store_slots::View;
 
-// A lookup at one component of the path, `name`: it is over, or goes on in a slot; `below` is the path of the tree below it.
-fn look_in(
-    v: View<'_>,
-    tree: &[u8],
-    below: &[u8],
-    name: &[u8],
-    last: bool,
-) -> ControlFlow<Option<Seen>, usize>
-    requires { KeysSound v × (length v.plens.now ≡ 64) × Run 20 tree.now × (well_formed 20 (unpack 20 tree.now) ≡ true) × (has 47 name.now ≡ false) }
-    ensures { LookStepIs (digits 64 v.entry.ed.hidden) (cut v.entry.plens.now v.entry.paths.now) (unpack 20 tree.now) below.now name.now «last» result }
+// A lookup at one component of the path: it is over, or goes on in a slot.
+fn look_in(v: View<'_>, tree: &[u8], here: Component<'_>) -> ControlFlow<Option<Seen>, usize>
+    requires { KeysSound v × (length v.plens.now ≡ 64) × Run 20 tree.now × (well_formed 20 (unpack 20 tree.now) ≡ true) × (has 47 here.name.now ≡ false) }
+    ensures { LookStepIs (digits 64 v.entry.ed.hidden) (cut v.entry.plens.now v.entry.paths.now) (unpack 20 tree.now) here.entry.below.now here.entry.name.now here.entry.last result }
 {
-    let Some(seen) = crate::seen::seen_in(tree, name, true) else {
+    let Some(seen) = crate::seen::seen_in(tree, here.name, true) else {
         return ControlFlow::Break(None);
     };
-    if last {
+    if here.last {
         return ControlFlow::Break(Some(seen));
     }
     if !seen.kind.is_tree() {
         return ControlFlow::Break(None);
     }
-    match v.find(below) {
+    match v.find(here.below) {
         Some(slot) => ControlFlow::Continue(slot),
         None => ControlFlow::Break(None),
     }
@@ -53,13 +48,8 @@ pub fn look(v: View<'_>, full: &[u8], path: &[u8], slot: usize) -> Option<Seen>
     let mut p = path;
     let mut at = slot;
     loop {
-        let k = names::path::component_len(p);
-        let last = k == p.len();
-        let end = full.len() - p.len() + k;
-        let tree = v.tree_in(at);
-        let below = names::part::front(full, end);
-        let name = names::part::front(p, k);
-        match look_in(v, tree, below, name, last) {
+        let here = crate::component::first(full, p);
+        match look_in(v, v.tree_in(at), here) {
             ControlFlow::Break(found) => {
                 return found;
             }
@@ -67,6 +57,6 @@ pub fn look(v: View<'_>, full: &[u8], path: &[u8], slot: usize) -> Option<Seen>
                 at = slot_below;
             }
         }
-        p = names::path::tail(p, k);
+        p = here.rest;
     }
 }

@@ -10,8 +10,9 @@ ghost use Rattle.store_slots.specs.Stores.{KeysSound, LaidSeen};
 ghost use Rattle.editor_terms.specs.Edits.{wanted_by};
 ghost use Rattle.editor_walk.specs.Counted.{counts_as};
 ghost use Rattle.editor_walk.specs.Levels.{Stored, Stands, SeenAt, StepIs, CachesAs, LandedAs, MeasuredAs, down_as, step_for};
-ghost use Rattle.editor_walk.specs.Tasks.{edit_for, measure_for, path_seen, table_for, view_seen};
+ghost use Rattle.editor_walk.specs.Tasks.{cached_seen, edit_for, measure_for, path_seen, table_for, view_seen};
 
+use crate::component::Component;
 use crate::counts::Counts;
 use crate::land::Landing;
 use crate::task::Task;
@@ -111,36 +112,33 @@ fn go_down<'a>(
     landed(landing, below.len(), u)
 }
 
-// One step: the edit at the component `name`, with the path `below` of the tree below it.
+// One step: the edit at a component. It ends the walk with an answer, or goes on; refused where it passes a limit.
 fn step<'a>(
     v: View<'_>,
     task: Task<'a>,
-    below: &[u8],
-    name: &[u8],
-    last: bool,
+    here: Component<'_>,
     stage: Stage<'a>,
 ) -> Result<ControlFlow<Result<(), Refusal>, Stage<'a>>, Refusal>
     requires { KeysSound v × (length v.plens.now ≡ 64) × Stored v.ed.trees v.tlens.now v.trees.now
         × ((t : Tree) × Stands v.tlens.now v.trees.now stage.level t)
-        × (has 47 name.now ≡ false) × (length below.now ≤ 1280) × (length name.now ≤ 1280) × (withinLimits (counts_as stage.counts) ≡ true) }
+        × (has 47 here.name.now ≡ false) × (length here.below.now ≤ 1280) × (length here.name.now ≤ 1280) × (withinLimits (counts_as stage.counts) ≡ true) }
     ensures { (t : Tree) → Stands v.entry.tlens.now v.entry.trees.now stage.entry.level t → StepIs v.entry.tlens.now v.entry.trees.now
-        (step_for task.entry «last» below.now name.now t
-        (cached_of 20 v.entry.ed v.entry.plens.now v.entry.paths.now v.entry.tlens.now v.entry.trees.now) (counts_as stage.entry.counts)) result }
+        (step_for task.entry here.entry.last here.entry.below.now here.entry.name.now t (cached_seen v.entry) (counts_as stage.entry.counts)) result }
 {
-    let n = name.len();
+    let n = here.name.len();
     if n == 0 {
         return Ok(ControlFlow::Break(Err(Refusal::EmptyComponent)));
     }
-    let seen = seen_at(v, stage.level, name);
-    let turn = task.edit.turn(last, seen);
+    let seen = seen_at(v, stage.level, here.name);
+    let turn = task.edit.turn(here.last, seen);
     let u = crate::counts::turned(turn, seen, n, stage.counts);
     if !crate::counts::within(u) {
         return Err(Refusal::NoRoom);
     }
-    if !turn.goes_down(last, task.opening) {
+    if !turn.goes_down(here.last, task.opening) {
         return Ok(ControlFlow::Break(turn.answer()));
     }
-    go_down(v, task, below, turn, u)
+    go_down(v, task, here.below, turn, u)
 }
 
 // The answer of an edit whose steps each keep the limits, from the tree in a slot; else the refusal. `full` is that tree's path with the path.
@@ -164,12 +162,8 @@ pub fn measure(
         counts: crate::counts::counts_of(v.ed),
     };
     loop {
-        let k = names::path::component_len(p);
-        let last = k == p.len();
-        let end = full.len() - p.len() + k;
-        let below = names::part::front(full, end);
-        let name = names::part::front(p, k);
-        match step(v, task, below, name, last, stage)? {
+        let here = crate::component::first(full, p);
+        match step(v, task, here, stage)? {
             ControlFlow::Break(answer) => {
                 return Ok(answer);
             }
@@ -177,9 +171,9 @@ pub fn measure(
                 stage = next;
             }
         }
-        if last {
+        if here.last {
             return Ok(Ok(()));
         }
-        p = names::path::tail(p, k);
+        p = here.rest;
     }
 }

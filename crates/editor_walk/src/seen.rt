@@ -51,7 +51,6 @@ pub fn seen_in_raw(raw: &[u8], name: &[u8]) -> Option<Seen>
     ensures { SeenIn raw.now name.now result }
 {
     let mut at = 0;
-    // Stays: entries differ in length, so a place goes on from entry to entry; it is no index that is counted.
     while at < raw.len() {
         let entry = names::raw::read_entry(raw, at, WIDTH)?;
         if names::order::same_bytes(

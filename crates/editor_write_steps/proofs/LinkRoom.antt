@@ -62,6 +62,12 @@ module _ (w : ℕ) (n : Bytes) (pn : Plain n) (t : Tree) (wt : well_formed w t �
       let (b, g) = found_at n t x f in
       ap good_name (sym (name_of t (sound_well w t wt) b n x pn g)) ∙ good_find w t (well_entries w t wt) (as_kind b n) x g
 
+  -- a new id in the place of a tree entry's takes no room
+  pub set_fits : (p i : Bytes) (c : Cache) → find at p c ≡ some (record { path = p; held = t }) → fits c ≡ true → fits (put at (record { path = p; held = with_entry (record { mode = TREE; name = n; id = i }) t }) c) ≡ true
+  set_fits p i c e f =
+      let k = set_keeps w n pn t wt h i in
+      same_fits p t (with_entry (record { mode = TREE; name = n; id = i }) t) c k.entries k.names e f
+
 -- ---- of the tree in hand
 
 module _ {w : ℕ} (s : Store) {slot : ℕ} {order : List ℕ} (L : LaidIn w s) (h : ChildIn w s order slot) where

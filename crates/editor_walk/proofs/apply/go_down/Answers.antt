@@ -19,10 +19,7 @@ descend-requires c =
     let a = c.args in
     (c.requires.0, c.requires.1, land_fits (table_for a.task) (edit_for a.task) (wanted_by a.turn) a.s.now c.requires.0 c.requires.1 a.below.now c.land-landing.result (lands (goal.at.descend-requires c).After-land-landing) c.requires.2)
 
-pub returns : goal.returns
-returns c =
+pub returns-clause-done : goal.returns-clause-done
+returns-clause-done c =
     let a = c.args in
-    record {
-      done = stepped_down (table_for a.task) (edit_for a.task) (wanted_by a.turn) a.s.now c.requires.0 c.requires.1 a.below.now c.descend.result _ c.land-landing.result (lands (goal.at.returns c).After-land-landing) c.descend.ensures.done;
-      lent = c.descend.ensures.lent;
-    }
+    stepped_down (table_for a.task) (edit_for a.task) (wanted_by a.turn) a.s.now c.requires.0 c.requires.1 a.below.now c.descend.result _ c.land-landing.result (lands (goal.at.returns-clause-done c).After-land-landing) c.descend.ensures.done

@@ -19,11 +19,6 @@ overflow_add-result-in-None c =
     let r = roomy (counts_as c.args.u) c.requires.0 in
     omega (arith, r.names, c.requires.1)
 
-pub returns-in-Some : goal.returns-in-Some
-returns-in-Some c =
-    let a = c.args in
-    λ name e. sym (ap (λ (z : Option Seen). put_counts z name (counts_as a.u)) c.in-Some.is)
-
 pub returns-in-None : goal.returns-in-None
 returns-in-None c =
     let a = c.args in

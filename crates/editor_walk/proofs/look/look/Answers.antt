@@ -1,56 +1,39 @@
 -- `editor_walk::look::look` meets its contract: what is left of the path decides, from the tree in the slot at hand. Assumes nothing.
-use Prim.Native.Nat.{◌+◌}
 use mathlib.Core.Path.{refl, sym, ap, ◌∙◌, subst}
 use native.Mathlib.Omega.{arith}
-use lib.ListN.{length, length-drop}
 use Rattle.model.specs.Bytes.{has}
 use Rattle.model.specs.Tree.{well_formed}
 use Rattle.names_compact.specs.Compact.{Run, unpack}
-use Rattle.store_slots.specs.View.{view_of, path_of}
 use Rattle.store_slots.proofs.Changes.{searched_run, tree_run}
-use Rattle.names.proofs.FrontLaws.{front_long, piece_short}
+use Rattle.names.proofs.FrontLaws.{front_long}
+use Rattle.names.specs.Places.{first_piece}
+use lib.ListN.{length}
 use Rattle.editor_walk.proofs.ComponentLaws.{piece_plain}
-use Rattle.editor_walk.proofs.LookupLaws.{look_begin, look_empty, look_over, look_shorter, look_next}
+use Rattle.editor_walk.proofs.LookupLaws.{look_begin, look_over, look_next}
 use Rattle.editor_walk.proofs.look.look.Goals as goal
-
-pub returns-then-path-eq0 : goal.returns-then-path-eq0
-returns-then-path-eq0 c =
-    let a = c.args in
-    look_empty a.path.now (path_of a.v.plens.now a.v.paths.now a.slot) (view_of 20 a.v.ed a.v.plens.now a.v.paths.now a.v.tlens.now a.v.trees.now) c.if-path-eq0.true
 
 pub loop-found-init : goal.loop-found-init
 loop-found-init c =
     let a = c.args in
     look_begin a.v.ed a.v.plens.now a.v.paths.now a.v.tlens.now a.v.trees.now a.full.now a.path.now a.slot c.requires.2 c.requires.3 c.if-path-eq0.false
 
-pub overflow_sub-end : goal.overflow_sub-end
-overflow_sub-end c = omega (arith, front_long c.loop-found.invariant.front)
-
-pub overflow_add-end : goal.overflow_add-end
-overflow_add-end c = omega (arith, front_long c.loop-found.invariant.front, piece_short c.loop-found.p.now c.component_len-k.result c.component_len-k.ensures)
-
-pub tree_in-tree-requires : goal.tree_in-tree-requires
-tree_in-tree-requires c = (c.requires.0.trees_sound, omega (arith, c.requires.0.tlens_64, c.loop-found.invariant.used.low))
+pub first-here-requires : goal.first-here-requires
+first-here-requires c = omega (arith, front_long c.loop-found.invariant.front)
 
 pub look_in-requires : goal.look_in-requires
 look_in-requires c =
     let a = c.args in
-    let run = c.tree_in-tree.ensures in
+    let run = c.tree_in.ensures in
     let low = c.loop-found.invariant.used.low in (
       c.requires.0.paths_sound,
       c.requires.0.plens_64,
       subst (Run 20) (sym run) (searched_run 20 a.v.ed a.v.plens.now a.v.paths.now a.v.tlens.now a.v.trees.now c.requires.0 c.loop-found.at low),
       ap (λ t. well_formed 20 t) (ap (unpack 20) run ∙ tree_run 20 a.v.ed a.v.plens.now a.v.paths.now a.v.tlens.now a.v.trees.now c.requires.0 c.loop-found.at low) ∙ c.requires.0.well c.loop-found.at low,
-      ap (has 47) c.front-name.ensures ∙ piece_plain c.loop-found.p.now c.component_len-k.result c.component_len-k.ensures,
+      ap (has 47) c.first-here.ensures.name ∙ piece_plain c.loop-found.p.now (length (first_piece c.loop-found.p.now)) refl,
     )
 
 pub returns-in-Break : goal.returns-in-Break
-returns-in-Break c = look_over c.loop-found.invariant c.requires.0 c.requires.1 c.component_len-k.ensures refl c.tree_in-tree.ensures refl c.front-below.ensures c.front-name.ensures c.look_in.ensures c.in-Break.is
-
-pub loop-found-smaller : goal.loop-found-smaller
-loop-found-smaller c =
-    let d = look_shorter c.loop-found.invariant c.requires.0 c.requires.1 c.component_len-k.ensures refl c.tree_in-tree.ensures refl c.front-below.ensures c.front-name.ensures c.look_in.ensures c.in-Continue.is in
-    omega (arith, d, ap length c.tail-p.ensures, length-drop (c.component_len-k.result + 1) c.loop-found.p.now)
+returns-in-Break c = look_over c.loop-found.invariant c.requires.0 c.requires.1 refl c.first-here.ensures.last c.tree_in.ensures refl c.first-here.ensures.below c.first-here.ensures.name c.look_in.ensures c.in-Break.is
 
 pub loop-found-preserved : goal.loop-found-preserved
-loop-found-preserved c = look_next c.loop-found.invariant c.requires.0 c.requires.1 c.component_len-k.ensures refl c.tree_in-tree.ensures refl c.front-below.ensures c.front-name.ensures c.look_in.ensures c.in-Continue.is c.tail-p.ensures
+loop-found-preserved c = look_next c.loop-found.invariant c.requires.0 c.requires.1 refl c.first-here.ensures.last c.tree_in.ensures refl c.first-here.ensures.below c.first-here.ensures.name c.look_in.ensures c.in-Continue.is c.first-here.ensures.rest

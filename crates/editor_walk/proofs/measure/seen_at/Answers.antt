@@ -1,17 +1,11 @@
 -- `editor_walk::measure::seen_at` meets its contract, by the tree at hand. Assumes nothing.
 use mathlib.Core.Path.{sym, ap, ◌∙◌, subst}
-use native.Mathlib.Omega.{arith}
 use Rattle.model.specs.Map.{rising}
 use Rattle.model.specs.Tree.{Tree, key, entry_of}
 use Rattle.names_compact.specs.Compact.{Run, unpack}
 use Rattle.editor_terms.specs.Edits.{parts_of}
 use Rattle.editor_walk.proofs.MeasureLaws.{stored_tree, stands_as}
 use Rattle.editor_walk.proofs.measure.seen_at.Goals as goal
-
-pub tree_in-requires : goal.tree_in-requires
-tree_in-requires c =
-    let y = stands_as c.args.v.tlens.now c.args.v.trees.now c.requires.1.0 c.in-Slot.is c.requires.1.1 in
-    (c.requires.0.sound, omega (arith, c.requires.0.all, y.0))
 
 pub seen_in-requires : goal.seen_in-requires
 seen_in-requires c =
@@ -28,14 +22,3 @@ returns-in-Slot c =
           let y = stands_as c.args.v.tlens.now c.args.v.trees.now t c.in-Slot.is h in
           c.seen_in.ensures ∙ ap (λ (z : Tree). parts_of (entry_of c.args.name.now z)) (ap (unpack 20) c.tree_in.ensures ∙ stored_tree c.requires.0 c.in-Slot.slot y.0 ∙ sym y.1);
     }
-
-pub returns-in-Raw : goal.returns-in-Raw
-returns-in-Raw c =
-    record {
-      is = λ t h.
-          let y = stands_as c.args.v.tlens.now c.args.v.trees.now t c.in-Raw.is h in
-          c.seen_in_raw.ensures.is t y;
-    }
-
-pub returns-in-Empty : goal.returns-in-Empty
-returns-in-Empty c = record { is = λ t h. ap (λ (z : Tree). parts_of (entry_of c.args.name.now z)) (sym (stands_as c.args.v.tlens.now c.args.v.trees.now t c.in-Empty.is h)) }
