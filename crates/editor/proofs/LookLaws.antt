@@ -31,9 +31,7 @@ use Rattle.store_slots.specs.Stores.{Shows}
 use Rattle.editor_terms.specs.Answers.{refusal_number}
 use Rattle.editor_terms.specs.declared.refusal.Refusal.{Refusal}
 use Rattle.editor_terms.specs.declared.refusal.Refusal.TheVariants.{CursorStale}
-use Rattle.store_check.specs.Decides.{Decides}
 use Rattle.store_check.specs.Stored.{Stored}
-use Rattle.store_check.proofs.Deciding as deciding
 use Rattle.store_check.proofs.StoredLaws.{sha1_width, sha1_room}
 use Rattle.editor.specs.Lent.{Lent, Good, viewed}
 use Rattle.editor.specs.Looks.{Looks, ReadyIs, NotReady}
@@ -208,8 +206,5 @@ module _ (ed : Record) (plens paths tlens trees order : List ℕ) (g : Stored sh
   front_closed o = (g.holds.ordered.closed o).hidden
 
 module _ (prefix path : Bytes) (s : Lent) where
-  pub damaged : (b : Bool) → Decides (Good s) b → b ≡ false → Looks prefix path s (refusal 13)
-  damaged b d e = record { refused = λ f. deciding.refused d e; answered = λ n. absurd (n refl) }
-
   pub answers : Good s → (r : Looked) → r ≡ looked prefix path (viewed s) → Looks prefix path s r
   answers g r e = record { refused = λ f k. looked_sound prefix path (viewed s) (sym e ∙ f); answered = λ n. (g, e) }

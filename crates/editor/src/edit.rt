@@ -69,7 +69,8 @@ fn edit_exact(
     requires { Laid 20 ed.old plens.old paths.old tlens.old trees.old × (ed.old.«open» ≡ 0 → ed.old.hidden ≡ ed.old.free)
         × (ed.old.«open» ≡ 0 → valid sha1 (editor_at (view_of 20 ed.old plens.old paths.old tlens.old trees.old)) ≡ true) }
     ensures { (order : List ℕ) → EditedAs ed.old plens.old paths.old tlens.old trees.old order
-        (model.edited sha1 (table_in table.entry) (as_edit edit) opening prefix.now path.now (editor_of 20 ed.old plens.old paths.old tlens.old trees.old order)) result ed.new plens.new paths.new tlens.new trees.new }
+        (model.edited sha1 (table_in table.entry) (as_edit edit) opening prefix.now path.now (editor_of 20 ed.old plens.old paths.old tlens.old trees.old order))
+        result ed.new plens.new paths.new tlens.new trees.new }
 {
     let mut s = Store {
         ed: *ed,
