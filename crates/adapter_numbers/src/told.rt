@@ -1,6 +1,7 @@
 // What is told of the open request.
 ghost use Rattle.std.specs.Prelude.{◌≡◌, ◌≤◌, length};
-ghost use Rattle.adapter_numbers.specs.Asks.{needed_by, Told};
+ghost use Rattle.editor_write.specs.Requests.{answer_of, len_of, place_of};
+ghost use Rattle.adapter_numbers.specs.Asks.{Told};
 
 use editor_terms::refusal::Refusal;
 use editor_write::request::Asked;
