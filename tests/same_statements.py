@@ -24,7 +24,7 @@ CLAUSES = {
 
 def plain(term):
     """a contract's term with the names of the table's clauses"""
-    term = term.replace("(table_of ids.now ends.now raws.now)", "T")
+    term = term.replace("(table_in table.entry)", "T")
     term = re.sub(r"\b(\w+)\.now\b", r"\1", term).replace("(as_edit edit)", "(as_edit e)")
     return re.sub(r"\b(model|walk|write)\.", "", term)
 

@@ -1,4 +1,2 @@
 -- The laws that the proofs of several functions share, and that every answer is decided.
-pub mod ReadLaws
-pub mod Said
 pub mod SameAnswers

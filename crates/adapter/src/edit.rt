@@ -7,6 +7,7 @@ ghost use Rattle.editor_terms.specs.Objects.{table_of};
 ghost use Rattle.editor.specs.Lent.{lent, Does};
 ghost use Rattle.adapter_numbers.specs.Numbers.{Numbers, put_by};
 
+use editor_terms::edit::RemoveKind;
 use editor_terms::table::Table;
 use store_slots::{Record, Store};
 
@@ -38,7 +39,15 @@ pub extern "C" fn tree_editor_upsert(
         tlens,
         trees,
     };
-    let code = adapter_numbers::edit::upsert(&mut s, order, Table { ids, ends, raws }, prefix, path, id, mode);
+    let code = adapter_numbers::edit::upsert(
+        &mut s,
+        order,
+        Table { ids, ends, raws },
+        prefix,
+        path,
+        id,
+        mode,
+    );
     *ed = s.ed;
     code
 }
@@ -69,7 +78,14 @@ pub extern "C" fn tree_editor_remove(
         tlens,
         trees,
     };
-    let code = adapter_numbers::edit::remove(&mut s, order, Table { ids, ends, raws }, prefix, path);
+    let code = adapter_numbers::edit::remove(
+        &mut s,
+        order,
+        Table { ids, ends, raws },
+        prefix,
+        path,
+        RemoveKind::Any,
+    );
     *ed = s.ed;
     code
 }
@@ -100,7 +116,14 @@ pub extern "C" fn tree_editor_remove_leaf(
         tlens,
         trees,
     };
-    let code = adapter_numbers::edit::remove_leaf(&mut s, order, Table { ids, ends, raws }, prefix, path);
+    let code = adapter_numbers::edit::remove(
+        &mut s,
+        order,
+        Table { ids, ends, raws },
+        prefix,
+        path,
+        RemoveKind::Leaf,
+    );
     *ed = s.ed;
     code
 }

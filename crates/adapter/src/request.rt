@@ -22,10 +22,7 @@ pub extern "C" fn tree_editor_request(
         (lent ed plens.now paths.now tlens.now trees.now order.now)
         (slices out.old path.old lens.old) result (slices out.new path.new lens.new) }
 {
-    if lens.len() < 2 {
-        return 255;
-    }
-    if path.len() < PATH {
+    if lens.len() < 2 || path.len() < PATH {
         return 255;
     }
     let v = View {

@@ -9,14 +9,14 @@ use lib.ListN.{length, take, drop, set, replicate, take-append-drop}
 use lib.Seq.{take_at}
 use native.Mathlib.Omega.{arith}
 use borrow.Author.Tests.{eqb-true, eqb-false, le-leb}
+use Rattle.std.specs.Prelude.{Ok, Err}
 use Rattle.model.specs.Bytes.{Bytes}
 use Rattle.model.specs.Editor.{Held, Cache}
 use Rattle.model.specs.Write.{Shown, shown, short, unopened, requested, show}
 use Rattle.names.specs.Splice.{splice}
 use Rattle.store_slots.specs.View.{write_of}
-use Rattle.editor_terms.specs.Answers.{code_number}
-use Rattle.editor_terms.specs.declared.code.Code.{Code}
-use Rattle.editor_terms.specs.declared.code.Code.TheVariants.{Done, EmptyComponent, TreeNotFound, TreeDamaged, NotALeaf, NoRoom, PathRefused, BadTable, CursorStale, WriteOpen, NoWriteOpen, OutputShort, BadRoot, StoreDamaged}
+use Rattle.editor_terms.specs.Answers.{Answer, code_number}
+use Rattle.editor_terms.specs.declared.refusal.Refusal.TheVariants.{EmptyComponent, TreeNotFound, TreeDamaged, NotALeaf, NoRoom, PathRefused, BadTable, CursorStale, WriteOpen, NoWriteOpen, OutputShort, BadRoot, StoreDamaged}
 use Rattle.editor.specs.Lent.{Lent, Good, viewed, Still}
 use Rattle.editor.specs.Looks.{cursor_at, prefix_of}
 use Rattle.editor.specs.declared.cursor.Cursor.{Cursor}
@@ -26,38 +26,26 @@ use Rattle.adapter_numbers.specs.Asks.{Slices, slices, read_to, Room, Reads, Ask
 
 -- ---- what the number and the length needed say
 
-pub needed_is : (code : Code) (n : ℕ) (out : Bytes) → needed_by code ≡ short_by (shown_as code n out)
-needed_is Done n out = refl
-needed_is EmptyComponent n out = refl
-needed_is TreeNotFound n out = refl
-needed_is TreeDamaged n out = refl
-needed_is NotALeaf n out = refl
-needed_is NoRoom n out = refl
-needed_is PathRefused n out = refl
-needed_is BadTable n out = refl
-needed_is CursorStale n out = refl
-needed_is WriteOpen n out = refl
-needed_is NoWriteOpen n out = refl
-needed_is (OutputShort m) n out = refl
-needed_is BadRoot n out = refl
-needed_is StoreDamaged n out = refl
+pub needed_is : (code : Answer) (n : ℕ) (out : Bytes) → needed_by code ≡ short_by (shown_as code n out)
+needed_is (Ok done) n out = refl
+needed_is (Err refusal) n out = refl
 
 -- the answer 0 shows the front of the output
-done_is : (code : Code) (n : ℕ) (out : Bytes) → code_number code ≡ 0 → shown_as code n out ≡ shown (take n out)
-done_is Done n out e = refl
-done_is EmptyComponent n out e = absurd (omega (arith, e))
-done_is TreeNotFound n out e = absurd (omega (arith, e))
-done_is TreeDamaged n out e = absurd (omega (arith, e))
-done_is NotALeaf n out e = absurd (omega (arith, e))
-done_is NoRoom n out e = absurd (omega (arith, e))
-done_is PathRefused n out e = absurd (omega (arith, e))
-done_is BadTable n out e = absurd (omega (arith, e))
-done_is CursorStale n out e = absurd (omega (arith, e))
-done_is WriteOpen n out e = absurd (omega (arith, e))
-done_is NoWriteOpen n out e = absurd (omega (arith, e))
-done_is (OutputShort m) n out e = absurd (omega (arith, e))
-done_is BadRoot n out e = absurd (omega (arith, e))
-done_is StoreDamaged n out e = absurd (omega (arith, e))
+done_is : (code : Answer) (n : ℕ) (out : Bytes) → code_number code ≡ 0 → shown_as code n out ≡ shown (take n out)
+done_is (Ok done) n out e = refl
+done_is (Err EmptyComponent) n out e = absurd (omega (arith, e))
+done_is (Err TreeNotFound) n out e = absurd (omega (arith, e))
+done_is (Err TreeDamaged) n out e = absurd (omega (arith, e))
+done_is (Err NotALeaf) n out e = absurd (omega (arith, e))
+done_is (Err NoRoom) n out e = absurd (omega (arith, e))
+done_is (Err PathRefused) n out e = absurd (omega (arith, e))
+done_is (Err BadTable) n out e = absurd (omega (arith, e))
+done_is (Err CursorStale) n out e = absurd (omega (arith, e))
+done_is (Err WriteOpen) n out e = absurd (omega (arith, e))
+done_is (Err NoWriteOpen) n out e = absurd (omega (arith, e))
+done_is (Err (OutputShort m)) n out e = absurd (omega (arith, e))
+done_is (Err BadRoot) n out e = absurd (omega (arith, e))
+done_is (Err StoreDamaged) n out e = absurd (omega (arith, e))
 
 -- ---- bytes
 
@@ -92,34 +80,9 @@ short_place s g (shown b) = go (eqb s.ed.«open» 0) refl
     go true e = by none (none_asked s.ed.«open» _ _ _ _ (eqb-true s.ed.«open» 0 e)) (omega arith)
     go false e = by (some _) (asked_of s.ed.«open» _ _ _ _ (eqb-false s.ed.«open» 0 e)) (brief s g (eqb-false s.ed.«open» 0 e))
 
--- ---- what is told
-
-module _ (code : Code) (len : ℕ) (place : Cursor) (path : Bytes) (lens : List ℕ) (n : ℕ) (is : n ≡ code_number code) where
-  pub told_lacks : n ≡ 11 → (k : ℕ) → k ≡ needed_by code → Told code len place path lens n path (set lens 0 k)
-  told_lacks e k h =
-      record {
-        number = is;
-        lacks = λ z. (refl, ap (set lens 0) h);
-        done = λ z. absurd (omega (arith, z, is, e));
-        other = λ x y. absurd (x (sym is ∙ e));
-      }
-
-  pub told_other : (n ≡ 11 → ⊥) → (n ≡ 0 → ⊥) → Told code len place path lens n path lens
-  told_other a b = record { number = is; lacks = λ z. absurd (a (is ∙ z)); done = λ z. absurd (b (is ∙ z)); other = λ x y. (refl, refl) }
-
-  pub told_done : n ≡ 0 → (p path' : Bytes) (k : ℕ) → p ≡ prefix_of place → path' ≡ splice path 0 p → k ≡ 0 + length p → Told code len place path lens n path' (set (set lens 0 len) 1 k)
-  told_done e p path' k w f l =
-      let z : k ≡ length (prefix_of place) = omega (arith, l, ap length w) in
-      record {
-        number = is;
-        lacks = λ c. absurd (omega (arith, c, is, e));
-        done = λ c. (f ∙ ap (splice path 0) w, ap (set (set lens 0 len) 1) z);
-        other = λ x y. absurd (y (sym is ∙ e));
-      }
-
 -- ---- the request
 
-module _ (s : Lent) (code : Code) (len : ℕ) (place : Cursor) (out out' path path' : Bytes) (lens lens' : List ℕ) (n : ℕ) (t : Told code len place path lens n path' lens') where
+module _ (s : Lent) (code : Answer) (len : ℕ) (place : Cursor) (out out' path path' : Bytes) (lens lens' : List ℕ) (n : ℕ) (t : Told code len place path lens n path' lens') where
   -- the slices afterwards
   abbrev after : Slices
   after = slices out' path' lens'
@@ -163,9 +126,6 @@ module _ (s : Lent) (code : Code) (len : ℕ) (place : Cursor) (out out' path pa
             (d.0, t.number ∙ w.number, by_shown x p w.is w.rest w.kept w.number w.long (ap prefix_of d.2 ∙ prefix_at p (short_place s d.0 x)));
       }
 
--- slices without room
-pub no_room : (s : Lent) (d : Slices) → (Room d → ⊥) → Asks s d 255 d
-no_room s d h = record { bad = λ z. (refl, refl); good = λ r. absurd (h r) }
-
+-- slices with room
 pub asks : (s : Lent) (d : Slices) (n : ℕ) (q : Slices) → Room d → Reads s d n q → Asks s d n q
 asks s d n q r h = record { bad = λ z. absurd (z r); good = λ z. h }

@@ -12,9 +12,6 @@ use Rattle.adapter_numbers.specs.Asks.{Slices, Whole, Reads, AnswersAndAsks}
 use Rattle.adapter_numbers.proofs.NumberLaws.{whole_id}
 
 module _ (id : Bytes) (s : Lent) (d : Slices) (next : Bytes) where
-  pub not_whole : (Whole id d.path d.lens next → ⊥) → AnswersAndAsks id s d next 255 s d next
-  not_whole h = record { bad = λ z. (refl, refl, refl, refl); good = λ w. absurd (h w) }
-
   pub turns : (n m : ℕ) (q : Lent) (e : Slices) (i : Id) → Whole id d.path d.lens next → id_bytes i ≡ take 20 (drop 0 id) → Does (answered sha1 (id_bytes i)) s n q → Reads q d m e
       → AnswersAndAsks id s d next n q e (set next 0 m)
   turns n m q e i w b does reads =

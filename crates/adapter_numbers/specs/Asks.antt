@@ -4,8 +4,7 @@ use Rattle.model.specs.Bytes.{Bytes}
 use Rattle.model.specs.Formats.{sha1}
 use Rattle.model.specs.Write.{Shown, shown, short, unopened, requested, show, answered}
 use Rattle.names.specs.Splice.{splice}
-use Rattle.editor_terms.specs.Answers.{code_number}
-use Rattle.editor_terms.specs.declared.code.Code.{Code}
+use Rattle.editor_terms.specs.Answers.{Answer, code_number}
 use Rattle.editor.specs.Lent.{Lent, Good, viewed, Does}
 use Rattle.editor.specs.Looks.{prefix_of}
 use Rattle.editor.specs.declared.cursor.Cursor.{Cursor}
@@ -67,11 +66,11 @@ short_by (shown b) = 0
 short_by (short m) = m
 short_by unopened = 0
 
-abbrev pub needed_by : Code → ℕ
+abbrev pub needed_by : Answer → ℕ
 needed_by code = short_by (shown_as code 0 [])
 
 -- what is told of an answer, of the length of the raw tree and of its place
-pub record Told (code : Code) (len : ℕ) (place : Cursor) (path : Bytes) (lens : List ℕ) (n : ℕ) (path' : Bytes) (lens' : List ℕ) : Type 0 where
+pub record Told (code : Answer) (len : ℕ) (place : Cursor) (path : Bytes) (lens : List ℕ) (n : ℕ) (path' : Bytes) (lens' : List ℕ) : Type 0 where
   pub number : n ≡ code_number code
   pub lacks : code_number code ≡ 11 → (path' ≡ path) × (lens' ≡ set lens 0 (needed_by code))
   pub done : code_number code ≡ 0 → (path' ≡ splice path 0 (prefix_of place)) × (lens' ≡ set (set lens 0 len) 1 (length (prefix_of place)))

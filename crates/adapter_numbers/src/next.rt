@@ -1,6 +1,7 @@
 // Answering the open request and reading the next one in one call.
 ghost use Rattle.store_check.specs.Decides.{Decides};
-ghost use Rattle.editor.specs.Lent.{lent};
+ghost use Rattle.store_slots.specs.Stores.{SameLent};
+ghost use Rattle.editor.specs.Lent.{lent_in};
 ghost use Rattle.adapter_numbers.specs.Asks.{slices, Whole, AnswersAndAsks};
 
 use editor_terms::refusal::number;
@@ -16,7 +17,15 @@ fn arguments_ok(id: &[u8], path: &[u8], lens: &[usize], next: &[u8]) -> bool
 
 // Answers the open request with the id of the tree that was requested, and reads the request that is open then: 255 where the id has not 20 bytes, or
 // where there is no room.
-pub fn answer_and_request(s: &mut Store<'_>, order: &mut [u64], id: &[u8], out: &mut [u8], path: &mut [u8], lens: &mut [usize], next: &mut [u8]) -> u8
+pub fn answer_and_request(
+    s: &mut Store<'_>,
+    order: &mut [u64],
+    id: &[u8],
+    out: &mut [u8],
+    path: &mut [u8],
+    lens: &mut [usize],
+    next: &mut [u8],
+) -> u8
     ensures done { AnswersAndAsks id.now
         (lent_in s.old order.old)
         (slices out.old path.old lens.old) next.old result

@@ -1,7 +1,8 @@
 // A new root.
 ghost use Rattle.model.specs.Calls.{set_root};
 ghost use Rattle.model.specs.Formats.{sha1};
-ghost use Rattle.editor.specs.Lent.{lent, Does};
+ghost use Rattle.store_slots.specs.Stores.{SameLent};
+ghost use Rattle.editor.specs.Lent.{lent_in, Does};
 ghost use Rattle.editor.specs.Roots.{Makes};
 
 use editor_terms::refusal::number;

@@ -1,6 +1,7 @@
 // What is told of the open request.
 ghost use Rattle.std.specs.Prelude.{◌≡◌, ◌≤◌, length};
-ghost use Rattle.adapter_numbers.specs.Asks.{needed_by, Told};
+ghost use Rattle.editor_write.specs.Requests.{answer_of, len_of, place_of};
+ghost use Rattle.adapter_numbers.specs.Asks.{Told};
 
 use editor_terms::refusal::Refusal;
 use editor_write::request::Asked;
@@ -17,10 +18,11 @@ pub fn tell_request(asked: Result<Asked, Refusal>, path: &mut [u8], lens: &mut [
             lens[1] = names::write::put(path, 0, &at.prefix[..at.len]);
             0
         }
-        Err(Refusal::OutputShort(needed)) => {
-            lens[0] = needed;
-            11
+        Err(refusal) => {
+            if let Refusal::OutputShort(needed) = refusal {
+                lens[0] = needed;
+            }
+            u8::from(refusal)
         }
-        Err(refusal) => u8::from(refusal),
     }
 }

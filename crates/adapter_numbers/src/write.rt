@@ -2,7 +2,8 @@
 ghost use Rattle.model.specs.Editor.{from_root, from_cursor};
 ghost use Rattle.model.specs.Formats.{sha1};
 ghost use Rattle.model.specs.Write.{begun, failed};
-ghost use Rattle.editor.specs.Lent.{lent, Does};
+ghost use Rattle.store_slots.specs.Stores.{SameLent};
+ghost use Rattle.editor.specs.Lent.{lent_in, Does};
 ghost use Rattle.adapter_numbers.specs.Numbers.{Numbers, answer_by};
 
 use editor_terms::refusal::number;

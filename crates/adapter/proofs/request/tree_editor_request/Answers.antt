@@ -8,4 +8,4 @@ pub returns : goal.returns
 returns c =
     let a = c.args in
     asks (lent a.ed a.plens.now a.paths.now a.tlens.now a.trees.now a.order.now) (slices a.out.now a.path.now a.lens.now) _ _ (record { lens = c.if-lens-lt2.false; path = c.if-path-lt-PATH.false })
-    (reads _ _ _ _ _ _ _ _ _ _ _ c.tell_request.ensures c.request-a.ensures)
+    (reads _ _ _ _ _ _ _ _ _ _ _ c.tell_request.ensures c.request.ensures)

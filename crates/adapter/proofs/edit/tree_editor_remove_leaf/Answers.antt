@@ -1,5 +1,0 @@
--- `adapter::edit::tree_editor_remove_leaf` meets its contract, which is that of `adapter_numbers::edit::remove_leaf` for a record that is changed in place. Written by tools/thin.py.
-use Rattle.adapter.proofs.edit.tree_editor_remove_leaf.Goals as goal
-
-pub returns : goal.returns
-returns c = c.remove_leaf-d.ensures
