@@ -23,12 +23,11 @@ use Rattle.model.proofs.ValidSums.{Sane, a_tree}
 use Rattle.model.proofs.WriteKeeps.{valid_ask, sum3}
 use Rattle.model.proofs.WriteLaws.{asking_count, linked_length}
 use Rattle.store_slots.specs.View.{write_of as writeIn}
-use Rattle.editor_terms.specs.Answers.{refusal_number, code_number}
 use Rattle.editor_terms.specs.declared.refusal.Refusal.{Refusal}
-use Rattle.editor_terms.specs.declared.refusal.Refusal.TheVariants.{EmptyComponent, TreeNotFound, TreeDamaged, NotALeaf, NoRoom, PathRefused, BadTable, CursorStale, WriteOpen, NoWriteOpen, OutputShort, BadRoot, StoreDamaged}
 use Rattle.editor.specs.Lent.{Lent, Good, viewed}
 use Rattle.editor.specs.declared.cursor.Cursor.{Cursor}
 use Rattle.editor.specs.Looks.{cursor_at}
+use Rattle.editor_write.proofs.SameAnswers.{zero_code}
 use Rattle.editor_write.proofs.Theorems.{viewed_valid}
 use Rattle.editor_write.specs.Requests.{answer_of, len_of, place_of, shown_as, shown_number, place_in, Shows, Requests}
 use Rattle.editor_write.specs.declared.request.Asked.{Asked}
@@ -51,21 +50,6 @@ bytes_shown unopened = []
 
 front_shown : (n : ℕ) (out b : Bytes) → shown_as (maybe.Ok tt) n out ≡ shown b → take n out ≡ b
 front_shown n out b e = ap bytes_shown e
-
-number_some : (x : Refusal) → refusal_number x ≡ 0 → ⊥
-number_some EmptyComponent e = omega (arith, e)
-number_some TreeNotFound e = omega (arith, e)
-number_some TreeDamaged e = omega (arith, e)
-number_some NotALeaf e = omega (arith, e)
-number_some NoRoom e = omega (arith, e)
-number_some PathRefused e = omega (arith, e)
-number_some BadTable e = omega (arith, e)
-number_some CursorStale e = omega (arith, e)
-number_some WriteOpen e = omega (arith, e)
-number_some NoWriteOpen e = omega (arith, e)
-number_some (OutputShort needed) e = omega (arith, e)
-number_some BadRoot e = omega (arith, e)
-number_some StoreDamaged e = omega (arith, e)
 
 cursor_front : (c : Cursor) (p : Bytes) → c ≡ cursor_at p → take c.len c.prefix ≡ p
 unfolding cursor_at
@@ -91,7 +75,10 @@ module _ (s : Lent) (g : Good s) (h : Held) (q : requested (viewed s) ≡ some h
 
     -- and it is not refused
     pub request_there : {x : Refusal} → r ≡ maybe.Err x → ⊥
-    request_there {x} e = number_some x (sym (ap (λ (y : maybe.Result Asked Refusal). code_number (answer_of y)) e) ∙ read.number ∙ ap shown_number is_shown_lem)
+    request_there e =
+        let q = sym (ap answer_of e) ∙ zero_code (answer_of r) (read.number ∙ ap shown_number is_shown_lem) in
+        let z : ◌≡◌ {A = ℕ} 0 1 = cc in
+        omega arith
 
 -- A write is open where the record says so
 no_request : (c : Cache) (n : ℕ) (a : Held) (k t : List Held) → n ≡ 0 → requested (record { cached = c; writing = writeIn n a k t }) ≡ none

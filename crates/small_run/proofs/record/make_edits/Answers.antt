@@ -4,7 +4,7 @@ use native.Mathlib.Omega.{arith}
 use borrow.Author.Rules.{rules}
 use Rattle.small_records.specs.Answers.{next_read}
 use Rattle.small_records.proofs.FormLaws.{standing}
-use Rattle.small_run.proofs.PutLaws.{put_told, put_refused, refused_other}
+use Rattle.small_run.proofs.PutLaws.{put_told, put_refused}
 use Rattle.small_run.proofs.AllLaws.{read_found, midway_begin, midway_more, midway_stop, midway_good, midway_put, midway_after}
 use Rattle.small_run.proofs.record.make_edits.Goals as goal
 
@@ -24,9 +24,6 @@ loop-record-preserved c =
       long = search (rules, c.loop-record.invariant.long);
     }
 
-pub returns-in_err-to-clause-editor : goal.returns-in_err-to-clause-editor
-returns-in_err-to-clause-editor c = λ rs n e z. absurd (refused_other n (sym c.from_residual.ensures ∙ z))
-
 pub returns-in_err-to-clause-put : goal.returns-in_err-to-clause-put
 returns-in_err-to-clause-put c = λ rs e. rw c.from_residual.ensures (midway_stop c.loop-record.invariant.law _ (read_found c.in-Ok-Some.ensures c.in-Ok-Some.field-0-is) (put_refused _ _ _ _ c.make_record.ensures.put c.in_err-to.was) rs e)
 
@@ -36,8 +33,8 @@ returns-in_default-clause-put c = λ rs e. midway_put c.loop-record.invariant.la
 pub returns-in_default-clause-editor : goal.returns-in_default-clause-editor
 returns-in_default-clause-editor c = λ rs n e z. (c.loop-record.invariant.law.good, midway_after c.loop-record.invariant.law (search (rules, c.in_default.ensures)) rs e)
 
-pub returns-in_default-2-clause-put : goal.returns-in_default-2-clause-put
-returns-in_default-2-clause-put c = λ rs e. absurd (midway_good c.loop-record.invariant.law rs e (sym c.next_record.ensures ∙ ap next_read c.in_default.is))
-
 pub returns-in_default-2-clause-editor : goal.returns-in_default-2-clause-editor
 returns-in_default-2-clause-editor c = λ rs n e z. absurd (midway_good c.loop-record.invariant.law rs e (sym c.next_record.ensures ∙ ap next_read c.in_default.is))
+
+pub returns-in_default-2-clause-put : goal.returns-in_default-2-clause-put
+returns-in_default-2-clause-put c = λ rs e. absurd (midway_good c.loop-record.invariant.law rs e (sym c.next_record.ensures ∙ ap next_read c.in_default.is))
