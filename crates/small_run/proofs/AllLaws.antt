@@ -1,36 +1,25 @@
--- EditRecord after record: what was told and what is left to tell are the lines of all records. Assumes nothing.
+-- Record after record: what was told and what is left to tell are the lines of all records. Assumes nothing.
 use Prim.Native.Nat.{ℕ, ◌+◌, ◌≤◌, ◌<◌}
 use mathlib.Core.Path.{◌≡◌, refl, sym, ◌∙◌, ap, subst}
 use mathlib.Core.List.{List, [], ◌∷◌, ◌++◌}
-use mathlib.Core.Option.{Option, none, some}
 use native.Mathlib.Omega.{arith}
 use lib.ListN.{length}
-use borrow.Author.Tests.{lt-leb}
+use Rattle.std.specs.Prelude.{Option, Some, Ok}
 use Rattle.model.specs.Bytes.{Bytes}
 use Rattle.model.specs.Editor.{Editor}
 use Rattle.editor.specs.Lent.{Lent, Good, viewed}
-use Rattle.lines.specs.Places.{past}
-use Rattle.small_records.specs.Places.{Found, Next, nothing, broken, found, or_broken, op_at, path_at, kind_at, id_at, next_at, record_found}
+use Rattle.small_records.specs.Answers.{found_as, next_read}
+use Rattle.small_records.specs.declared.record.EditRecord.{EditRecord as Entry}
+use Rattle.small_records.specs.Places.{Found, Next, nothing, broken, found, next_at, record_found}
 use Rattle.small_records.specs.Records.{EditRecord, good as goodInput, reading}
 use Rattle.small_records.proofs.FormLaws.{standing, Left, left_begin, left_more, left_end, left_good}
-use Rattle.small_records.proofs.NextLaws.{at_end}
 use Rattle.small_run.specs.Lesson.{made_by, refusal, record_lines, after_records}
 use Rattle.small_run.specs.Puts.{PutAt, Leaves}
 use Rattle.small_run.proofs.PutLaws.{Telling, telling_begin, telling_more, telling_refused, telling_end}
 
--- before the end of the input something stands
-never : {A : Type 0} (k : ℕ) (x : Option A) (next : A → Next) → ((a : A) → next a ≡ nothing → ⊥) → or_broken k x next ≡ nothing → ⊥
-never k none next h e = let z : ◌≡◌ {A = ℕ} 0 1 = cc in omega arith
-never k (some a) next h e = h a e
-
-found_some : (f : Found) → found f ≡ nothing → ⊥
-found_some f e = let z : ◌≡◌ {A = ℕ} 0 1 = cc in omega arith
-
-something : (s : Bytes) (at : ℕ) → at < length s → next_at 20 s at ≡ nothing → ⊥
-unfolding next_at
-something s at h e =
-    never 0 (op_at s at) _ (λ o. never 1 (path_at s o.next) _ (λ p. never 2 (kind_at s o.what (past p)) _ (λ k. never 3 (id_at 20 s k.what k.next) _ (λ i. found_some _))))
-    (rw (lt-leb (length s) at h) at e)
+-- what a record that was read says of its place
+pub read_found : {x : Next} {o : Option Entry} {r : Entry} → next_read (Ok o) ≡ x → o ≡ Some r → x ≡ found (found_as r)
+read_found p q = sym p ∙ ap (λ (o : Option Entry). next_read (Ok o)) q
 
 more_lines : (k : ℕ) (r : EditRecord) (rs : List EditRecord) (E : Editor) → record_lines k (r ∷ rs) E ≡ refusal k (made_by r E).code ++ record_lines (k + 1) rs (made_by r E).editor
 unfolding record_lines
@@ -73,14 +62,6 @@ midway_begin input s d g =
     }
 
 module _ {input : Bytes} {s₀ : Lent} {d₀ : Bytes} {s : Lent} {at k to : ℕ} {d : Bytes} (m : Midway input s₀ d₀ s at k to d) where
-  pub midway_found : (rs : List EditRecord) → reading 20 input ≡ goodInput rs → at < length input → (f : Found) × (next_at 20 input at ≡ found f)
-  midway_found rs e h = go (next_at 20 input at) refl
-    where
-      go : (x : Next) → next_at 20 input at ≡ x → (f : Found) × (next_at 20 input at ≡ found f)
-      go nothing q = absurd (something input at h q)
-      go (broken j) q = absurd (left_good (m.rest rs e).left q)
-      go (found f) q = (f, q)
-
   module _ (f : Found) (q : next_at 20 input at ≡ found f) where
     -- the lines that are left begin with this record's
     split : (E : Editor) (ps qs : List EditRecord) → qs ≡ record_found input f ∷ ps → record_lines k qs E ≡ refusal k (made_by (record_found input f) E).code ++ record_lines (k + 1) ps (made_by (record_found input f) E).editor
@@ -118,9 +99,14 @@ module _ {input : Bytes} {s₀ : Lent} {d₀ : Bytes} {s : Lent} {at k to : ℕ}
         telling_refused (refusal k (made_by (record_found input f) (viewed s)).code) (record_lines (k + 1) ps (made_by (record_found input f) (viewed s)).editor)
         (subst (λ (z : Bytes). Telling d₀ 0 (record_lines 1 rs (viewed s₀)) d to z) (split (viewed s) ps r.qs y) r.tell) h
 
-  module _ (h : length input ≤ at) (rs : List EditRecord) (e : reading 20 input ≡ goodInput rs) where
+  -- no line of a good input breaks the form
+  pub midway_good : (rs : List EditRecord) → reading 20 input ≡ goodInput rs → {j : ℕ} → next_at 20 input at ≡ broken j → ⊥
+  midway_good rs e {j} q = left_good (m.rest rs e).left q
+
+  -- at its end all are told
+  module _ (q : next_at 20 input at ≡ nothing) (rs : List EditRecord) (e : reading 20 input ≡ goodInput rs) where
     all_told : (m.rest rs e).qs ≡ []
-    all_told = left_end (m.rest rs e).left (sym (at_end 20 input at h))
+    all_told = left_end (m.rest rs e).left q
 
     pub midway_put : PutAt d₀ 0 (record_lines 1 rs (viewed s₀)) to d
     midway_put =

@@ -11,7 +11,6 @@ use Rattle.model.specs.Formats.{sha1}
 use Rattle.model.specs.Walk.{through, to_remove, removed, at_last, at_earlier, turn, load, enter, ended, stepped, below, turned}
 use Rattle.model.specs.Calls.{refuse_if, settled, edited, root_only}
 use Rattle.model.specs.Write.{unlinked, linked, finished, taken, no_tree, asking, write_of, begun_at, begun, closed, answered_in, answered, requested}
-use Rattle.editor_terms.specs.Ids.{word_bytes}
 use Rattle.lines.specs.Hex.{hexed, bytes_of, hex_of}
 use Rattle.lines.specs.Lines.{lines, said}
 use Rattle.small_records.specs.Records.{verb_of, op_of, good_id, step, read, reading}
@@ -21,7 +20,7 @@ use Rattle.small_run.specs.Lesson.{refusal, record_lines, after_records, count_i
 -- the definitions that the computing looks through
 computing : Unit {0}
 unfolding is_tree null good_name well_formed octal mode_of raw_entry refused valid_path good_table looked_up start_path fits sha1 through to_remove removed at_last at_earlier turn load enter ended
-    stepped below turned refuse_if settled edited root_only unlinked linked finished taken no_tree asking write_of begun_at begun closed answered_in answered requested word_bytes
+    stepped below turned refuse_if settled edited root_only unlinked linked finished taken no_tree asking write_of begun_at begun closed answered_in answered requested
     hexed bytes_of hex_of lines said verb_of op_of good_id step read reading decimal_from decimal refusal record_lines after_records count_id request_lines write_lines saved output
 computing = tt
 

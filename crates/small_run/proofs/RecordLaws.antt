@@ -8,6 +8,7 @@ use native.Mathlib.Omega.{arith}
 use lib.Dec.{eqb}
 use lib.ListN.{length, take, length-take, length-drop}
 use borrow.Author.Tests.{eqb-true, eqb-false, ne_eqb, le-leb}
+use Rattle.std.specs.Prelude.{Option, Some, None}
 use Rattle.model.specs.Bytes.{Bytes}
 use Rattle.model.specs.Calls.{Answer, edited}
 use Rattle.model.specs.Editor.{Editor}
@@ -20,11 +21,9 @@ use Rattle.editor.specs.Lent.{Lent, Good, viewed, Does}
 use Rattle.lines.specs.Answers.{outcome}
 use Rattle.lines.specs.Hex.{hexed, bytes_of}
 use Rattle.lines.specs.Places.{text_at}
-use Rattle.small_records.specs.Places.{Found, nothing, broken, found, next_at, record_found}
+use Rattle.small_records.specs.Places.{Found, found, next_at, record_found}
 use Rattle.small_records.specs.Records.{edit_of, good_id}
 use Rattle.lines.specs.Texts.{Written, decimal, line_of, written, decoded}
-use Rattle.lines.specs.declared.text.Put.{Put}
-use Rattle.lines.specs.declared.text.Put.TheVariants.{At, Refused}
 use Rattle.small_records.proofs.FormLaws.{standing}
 use Rattle.lines.proofs.TextLaws.{length_bytes}
 use Rattle.small_run.specs.Lesson.{edit_key, code_key, refusal, made_by}
@@ -38,7 +37,7 @@ decoded_fits d s x h =
     let q : 0 + length (bytes_of s) ≤ length d = omega arith in
     rw (x, le-leb (0 + length (bytes_of s)) (length d) q)
 
-pub decoded_front : (d s : Bytes) (p : Put) (e : Bytes) → hexed s ≡ true → length (bytes_of s) ≤ length d → outcome p e ≡ decoded d 0 s → (n : ℕ) → n ≡ length (bytes_of s) → take n e ≡ bytes_of s
+pub decoded_front : (d s : Bytes) (p : Option ℕ) (e : Bytes) → hexed s ≡ true → length (bytes_of s) ≤ length d → outcome p e ≡ decoded d 0 s → (n : ℕ) → n ≡ length (bytes_of s) → take n e ≡ bytes_of s
 decoded_front d s p e x h q n l =
     let w : e ≡ splice d 0 (bytes_of s) = sym (out_of p e) ∙ ap (λ (w : Written). w.out) (q ∙ decoded_fits d s x h) in
     ap (take n) w ∙ splice_front d (bytes_of s) n l
@@ -66,17 +65,17 @@ unfolding refusal
 two_lines k c n = rw (ne_eqb c 0 n)
 
 module _ (d : Bytes) (to : ℕ) (h : to ≤ length d) (k c : ℕ) where
-  pub tell_none : c ≡ 0 → Puts d to (refusal k c) (At to) d
+  pub tell_none : c ≡ 0 → Puts d to (refusal k c) (Some to) d
   tell_none e = subst (λ (l : Bytes). PutAt d to l to d) (sym (no_lines k c e)) (put_nothing d to h)
 
-  module _ (n : c ≡ 0 → ⊥) (r : Put) (e : Bytes) (q : outcome r e ≡ written d to (line_of edit_key (decimal k))) where
-    pub tell_both : {m : ℕ} → r ≡ At m → (j : ℕ) → j ≡ c → (p : Put) (f : Bytes) → outcome p f ≡ written e m (line_of code_key (decimal j)) → Puts d to (refusal k c) p f
+  module _ (n : c ≡ 0 → ⊥) (r : Option ℕ) (e : Bytes) (q : outcome r e ≡ written d to (line_of edit_key (decimal k))) where
+    pub tell_both : {m : ℕ} → r ≡ Some m → (j : ℕ) → j ≡ c → (p : Option ℕ) (f : Bytes) → outcome p f ≡ written e m (line_of code_key (decimal j)) → Puts d to (refusal k c) p f
     tell_both {m} t j i p f v =
         let w : outcome p f ≡ written e m (line_of code_key (decimal c)) = v ∙ ap (λ (x : ℕ). written e m (line_of code_key (decimal x))) i in
         subst (λ (l : Bytes). Puts d to l p f) (sym (two_lines k c n)) (both_put d to h (line_of edit_key (decimal k)) (line_of code_key (decimal c)) r e q t p f w)
 
-    pub tell_stop : r ≡ Refused → (f : Bytes) → Puts d to (refusal k c) Refused f
-    tell_stop t f = subst (λ (l : Bytes). Puts d to l Refused f) (sym (two_lines k c n)) (first_stops d to h (line_of edit_key (decimal k)) (line_of code_key (decimal c)) r e q t f)
+    pub tell_stop : r ≡ None → (f : Bytes) → Puts d to (refusal k c) None f
+    tell_stop t f = subst (λ (l : Bytes). Puts d to l None f) (sym (two_lines k c n)) (first_stops d to h (line_of edit_key (decimal k)) (line_of code_key (decimal c)) r e q t f)
 
 -- what the digits of a record say, in an input that is not too long
 module _ (s : Bytes) (at : ℕ) {g : Found} (e : next_at 20 s at ≡ found g) (l : Bytes) where
@@ -88,28 +87,6 @@ module _ (s : Bytes) (at : ℕ) {g : Found} (e : next_at 20 s at ≡ found g) (l
       let n : length (text_at s g.path) ≤ 65536 = rw (length-take, length-drop) (omega arith) in
       (ap hexed q ∙ (standing 20 s at e).path_hex, omega (arith, n, ap length q, length_bytes l))
 
--- a record stands there, and no broken line, and not the end
-pub not_broken : (s : Bytes) (at : ℕ) {k : ℕ} (f : Found) → next_at 20 s at ≡ found f → next_at 20 s at ≡ broken k → ⊥
-not_broken s at {k} f p q = let z : found f ≡ broken k = sym p ∙ q in let y : ◌≡◌ {A = ℕ} 0 1 = cc in omega arith
-
-pub not_ended : (s : Bytes) (at : ℕ) (f : Found) → next_at 20 s at ≡ found f → next_at 20 s at ≡ nothing → ⊥
-not_ended s at f p q = let z : found f ≡ nothing = sym p ∙ q in let y : ◌≡◌ {A = ℕ} 0 1 = cc in omega arith
-
--- one record stands at a place
-found_one : (f g : Found) → found f ≡ found g → f ≡ g
-found_one f g e = cc
-
-module _ (s : Bytes) (at : ℕ) (g : Found) (e : next_at 20 s at ≡ found g) where
-  pub at_next : (n : ℕ) → n ≡ g.next → (f : Found) → next_at 20 s at ≡ found f → n ≡ f.next
-  at_next n h f q = h ∙ ap (λ (x : Found). x.next) (found_one g f (sym e ∙ q))
-
-  module _ (E : Edit) (p : Bytes) (x : E ≡ edit_of g.op (text_at s g.id)) (y : p ≡ text_at s g.path) (N : Editor) where
-    same_made : (f : Found) → next_at 20 s at ≡ found f → edited sha1 no_table E false [] (bytes_of p) N ≡ made_by (record_found s f) N
-    same_made f q = rw (x, y) (ap (λ (z : Found). made_by (record_found s z) N) (found_one g f (sym e ∙ q)))
-
-    pub leaves_made : (t : Lent) → Leaves (edited sha1 no_table E false [] (bytes_of p) N) t → (f : Found) → next_at 20 s at ≡ found f → Leaves (made_by (record_found s f) N) t
-    leaves_made t l f q = subst (λ (a : Answer). Leaves a t) (same_made f q) l
-
-    pub puts_made : (d : Bytes) (to k : ℕ) (r : Put) (o : Bytes) → Puts d to (refusal k (edited sha1 no_table E false [] (bytes_of p) N).code) r o →
-        (f : Found) → next_at 20 s at ≡ found f → Puts d to (refusal k (made_by (record_found s f) N).code) r o
-    puts_made d to k r o l f q = subst (λ (a : Answer). Puts d to (refusal k a.code) r o) (same_made f q) l
+-- the edit that its digits say is the one of the definition
+pub made_is : (s : Bytes) (g : Found) (E : Edit) (p : Bytes) → E ≡ edit_of g.op (text_at s g.id) → p ≡ text_at s g.path → (N : Editor) → edited sha1 no_table E false [] (bytes_of p) N ≡ made_by (record_found s g) N
+made_is s g E p x y N = rw (x, y)

@@ -23,7 +23,6 @@ use Rattle.model.proofs.RawLaws.{well_entries}
 use Rattle.model.proofs.ValidLaws.{raw_length}
 use Rattle.model.proofs.ValidSums.{total_append, total_reverse, one, is_at, its_entries, its_names, its_path, Sane, is_good_lem}
 use Rattle.model.proofs.WriteKeeps.{valid_ask, sum3}
-use Rattle.editor_terms.specs.Ids.{word_bytes}
 use Rattle.lines.specs.Hex.{hex_of}
 use Rattle.lines.specs.Texts.{line_of}
 use Rattle.lines.proofs.TextLaws.{line_long, length_hex}
@@ -230,7 +229,7 @@ unfolding weight
 step i E h v q = step_of i E.cached E.writing h v q
 
 count_long : (k : ℕ) → length (count_id k) ≡ 20
-unfolding count_id word_bytes
+unfolding count_id
 count_long k = refl
 
 root_long : (k : ℕ) → length (line_of root_key (hex_of (count_id k))) ≡ 46

@@ -7,6 +7,7 @@ use native.Mathlib.Omega.{arith}
 use lib.Dec.{eqb, leb}
 use lib.ListN.{length}
 use borrow.Author.Tests.{eqb-true, eqb-false, leb-true}
+use Rattle.std.specs.Prelude.{Option}
 use Rattle.model.specs.Bytes.{Bytes}
 use Rattle.model.specs.Calls.{Answer, refuse_if, root_only, rooted}
 use Rattle.model.specs.Editor.{Editor, fits}
@@ -17,13 +18,12 @@ use Rattle.editor.specs.Roots.{Makes}
 use Rattle.lines.specs.Lines.{lines}
 use Rattle.small_records.specs.Records.{EditRecord, Read, bad, good as goodInput, at_op, read, reading, bad_line, records, form_of}
 use Rattle.lines.specs.Texts.{decimal, line_of}
-use Rattle.lines.specs.declared.text.Put.{Put}
 use Rattle.small_run.specs.Lesson.{bad_key, record_lines, after_records, saved, output_of, output}
 use Rattle.small_run.specs.Puts.{PutAt, Puts}
 use Rattle.small_run.proofs.PutLaws.{puts_then}
 
 -- the write's lines behind those of the records
-pub both_lines : {d : Bytes} {l : Bytes} {n : ℕ} {e : Bytes} → PutAt d 0 l n e → (N A : Editor) → N ≡ A → (r : Put) (f : Bytes) → Puts e n (saved N) r f → Puts d 0 (l ++ saved A) r f
+pub both_lines : {d : Bytes} {l : Bytes} {n : ℕ} {e : Bytes} → PutAt d 0 l n e → (N A : Editor) → N ≡ A → (r : Option ℕ) (f : Bytes) → Puts e n (saved N) r f → Puts d 0 (l ++ saved A) r f
 both_lines {d} {l} {n} {e} p N A x r f q = puts_then p (saved A) r f (subst (λ (E : Editor). Puts e n (saved E) r f) x q)
 
 -- an empty root

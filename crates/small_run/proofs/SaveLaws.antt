@@ -7,6 +7,7 @@ use mathlib.Core.Option.{Option, none, some}
 use native.Mathlib.Omega.{arith}
 use lib.ListN.{length, take, replicate}
 use lib.Seq.{take_at}
+use Rattle.std.specs.Prelude as maybe
 use Rattle.model.specs.Bytes.{Bytes, is_nil}
 use Rattle.model.specs.Tree.{null}
 use Rattle.model.specs.Raw.{raw_tree}
@@ -14,7 +15,7 @@ use Rattle.model.specs.Editor.{Held, Cache, Start, from_root, from_cursor, Write
 use Rattle.model.specs.Formats.{sha1}
 use Rattle.model.specs.Valid.{valid}
 use Rattle.model.specs.Write.{linked, asking, write_of, closed, pick_editor, answered_in, answered, requested, Shown, shown, short, unopened, show, begun}
-use Rattle.model.proofs.Basics.{no_way, and_false, none_some}
+use Rattle.model.proofs.Basics.{and_false, none_some}
 use Rattle.model.proofs.RoomCounts.{trees_total}
 use Rattle.model.proofs.SameRequests.{left, linked_some}
 use Rattle.model.proofs.Theorems.{output_20}
@@ -22,17 +23,17 @@ use Rattle.model.proofs.ValidSums.{Sane, a_tree}
 use Rattle.model.proofs.WriteKeeps.{valid_ask, sum3}
 use Rattle.model.proofs.WriteLaws.{asking_count, linked_length}
 use Rattle.store_slots.specs.View.{write_of as writeIn}
-use Rattle.editor_terms.specs.declared.code.Code.{Code}
-use Rattle.editor_terms.specs.declared.code.Code.TheVariants.{Done, EmptyComponent, TreeNotFound, TreeDamaged, NotALeaf, NoRoom, PathRefused, BadTable, CursorStale, WriteOpen, NoWriteOpen, OutputShort, BadRoot, StoreDamaged}
+use Rattle.editor_terms.specs.declared.refusal.Refusal.{Refusal}
 use Rattle.editor.specs.Lent.{Lent, Good, viewed}
 use Rattle.editor.specs.declared.cursor.Cursor.{Cursor}
 use Rattle.editor.specs.Looks.{cursor_at}
+use Rattle.editor_write.proofs.SameAnswers.{zero_code}
 use Rattle.editor_write.proofs.Theorems.{viewed_valid}
-use Rattle.editor_write.specs.Requests.{shown_as, place_in, Requests}
+use Rattle.editor_write.specs.Requests.{answer_of, len_of, place_of, shown_as, shown_number, place_in, Shows, Requests}
+use Rattle.editor_write.specs.declared.request.Asked.{Asked}
 use Rattle.lines.specs.Hex.{hex_of}
 use Rattle.lines.specs.Answers.{outcome}
 use Rattle.lines.specs.Texts.{line_of, written}
-use Rattle.lines.specs.declared.text.Put.{Put}
 use Rattle.small_run.specs.Lesson.{tree_key, raw_key, root_key, count_id, request_lines, or_root, write_lines, saved}
 use Rattle.small_run.specs.Puts.{PutAt, Puts, Leaves}
 use Rattle.small_run.proofs.PutLaws.{puts, Telling, telling_begin, telling_more, telling_refused, telling_last}
@@ -47,44 +48,37 @@ bytes_shown (shown b) = b
 bytes_shown (short m) = []
 bytes_shown unopened = []
 
-abbrev is_shown : Shown → Bool
-is_shown (shown b) = true
-is_shown (short m) = false
-is_shown unopened = false
-
-front_shown : (code : Code) (n : ℕ) (out b : Bytes) → shown_as code n out ≡ shown b → take n out ≡ b
-front_shown Done n out b e = ap bytes_shown e
-front_shown EmptyComponent n out b e = no_way (sym (ap is_shown e))
-front_shown TreeNotFound n out b e = no_way (sym (ap is_shown e))
-front_shown TreeDamaged n out b e = no_way (sym (ap is_shown e))
-front_shown NotALeaf n out b e = no_way (sym (ap is_shown e))
-front_shown NoRoom n out b e = no_way (sym (ap is_shown e))
-front_shown PathRefused n out b e = no_way (sym (ap is_shown e))
-front_shown BadTable n out b e = no_way (sym (ap is_shown e))
-front_shown CursorStale n out b e = no_way (sym (ap is_shown e))
-front_shown WriteOpen n out b e = no_way (sym (ap is_shown e))
-front_shown NoWriteOpen n out b e = no_way (sym (ap is_shown e))
-front_shown (OutputShort m) n out b e = no_way (sym (ap is_shown e))
-front_shown BadRoot n out b e = no_way (sym (ap is_shown e))
-front_shown StoreDamaged n out b e = no_way (sym (ap is_shown e))
+front_shown : (n : ℕ) (out b : Bytes) → shown_as (maybe.Ok tt) n out ≡ shown b → take n out ≡ b
+front_shown n out b e = ap bytes_shown e
 
 cursor_front : (c : Cursor) (p : Bytes) → c ≡ cursor_at p → take c.len c.prefix ≡ p
 unfolding cursor_at
 cursor_front c p e = ap (λ (x : Cursor). take x.len x.prefix) e ∙ take_at p (replicate (1024 - length p) 0) (length p) refl
 
-module _ (s : Lent) (g : Good s) (h : Held) (q : requested (viewed s) ≡ some h) {code : Code} {n : ℕ} {place : Cursor} {before after : Bytes} (R : Requests s code n place before after)
-    (room : 45056 ≤ length before) where
+module _ (s : Lent) (g : Good s) (h : Held) (q : requested (viewed s) ≡ some h) (before : Bytes) (room : 45056 ≤ length before) where
   is_shown_lem : show (length before) (viewed s) ≡ shown (raw_tree h.held)
   is_shown_lem = output_20 sha1 (viewed s) (length before) h wide (viewed_valid s g) room q
 
-  pub request_raw : take n after ≡ raw_tree h.held
-  request_raw = front_shown code n after (raw_tree h.held) ((R.done (λ e. (R.refused e).0 g)).1.is ∙ is_shown_lem)
+  module _ (r : maybe.Result Asked Refusal) {after : Bytes} (R : Requests s (answer_of r) (len_of r) (place_of r) before after) where
+    read : Shows (λ m. show m (viewed s)) (answer_of r) (len_of r) before after
+    read = (R.done (λ e. (R.refused e).0 g)).1
 
-  pub request_place : take place.len place.prefix ≡ h.path
-  request_place =
-      cursor_front place h.path
-      ((R.done (λ e. (R.refused e).0 g)).2
-      ∙ ap cursor_at (ap (λ (x : Shown). place_in x (requested (viewed s))) is_shown_lem ∙ ap (place_in (shown (raw_tree h.held))) q))
+    module _ {a : Asked} (e : r ≡ maybe.Ok a) where
+      pub request_raw : take a.len after ≡ raw_tree h.held
+      request_raw = front_shown a.len after (raw_tree h.held) (subst (λ (x : maybe.Result Asked Refusal). shown_as (answer_of x) (len_of x) after ≡ shown (raw_tree h.held)) e (read.is ∙ is_shown_lem))
+
+      pub request_place : take a.at.len a.at.prefix ≡ h.path
+      request_place =
+          cursor_front a.at h.path
+          (sym (ap place_of e) ∙ (R.done (λ e. (R.refused e).0 g)).2
+          ∙ ap cursor_at (ap (λ (x : Shown). place_in x (requested (viewed s))) is_shown_lem ∙ ap (place_in (shown (raw_tree h.held))) q))
+
+    -- and it is not refused
+    pub request_there : {x : Refusal} → r ≡ maybe.Err x → ⊥
+    request_there e =
+        let q = sym (ap answer_of e) ∙ zero_code (answer_of r) (read.number ∙ ap shown_number is_shown_lem) in
+        let z : ◌≡◌ {A = ℕ} 0 1 = cc in
+        omega arith
 
 -- A write is open where the record says so
 no_request : (c : Cache) (n : ℕ) (a : Held) (k t : List Held) → n ≡ 0 → requested (record { cached = c; writing = writeIn n a k t }) ≡ none
@@ -233,7 +227,7 @@ module _ {whole d₀ : Bytes} {to₀ : ℕ} {s : Lent} {k to : ℕ} {d raw : Byt
         telling_refused (request_lines h) (write_lines m.rest (k + 1) (answered sha1 (count_id (k + 1)) (viewed s)).editor)
         (subst (λ (z : Bytes). Telling d₀ to₀ whole d to z) split m.tell) x
 
-  pub saving_end : requested (viewed s) ≡ none → (b : Bytes) → b ≡ count_id k → (r : Put) (e : Bytes) → outcome r e ≡ written d to (line_of root_key (hex_of b)) → Puts d₀ to₀ whole r e
+  pub saving_end : requested (viewed s) ≡ none → (b : Bytes) → b ≡ count_id k → (r : maybe.Option ℕ) (e : Bytes) → outcome r e ≡ written d to (line_of root_key (hex_of b)) → Puts d₀ to₀ whole r e
   saving_end q b x r e w =
       let p : Puts d to (line_of root_key (hex_of (count_id k))) r e = puts d to m.within (line_of root_key (hex_of (count_id k))) r e (w ∙ ap (λ (z : Bytes). written d to (line_of root_key (hex_of z))) x) in
       telling_last (line_of root_key (hex_of (count_id k))) r e (subst (λ (z : Bytes). Telling d₀ to₀ whole d to z) (last_line m.rest k (viewed s) q) m.tell) p

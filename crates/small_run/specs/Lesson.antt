@@ -1,5 +1,5 @@
 -- What the small program writes for an input. Assumes nothing.
-use Rattle.std.specs.Prelude.{ℕ, zero, suc, ◌+◌, List, [], ◌∷◌, ◌++◌, false, cond, eqb, replicate}
+use Rattle.std.specs.Prelude.{ℕ, zero, suc, ◌+◌, ◌/◌, ◌%◌, List, [], ◌∷◌, ◌++◌, false, cond, eqb, replicate}
 use Rattle.std.proofs.Math.Option.{Option, none, some}
 use Rattle.model.specs.Bytes.{Bytes}
 use Rattle.model.specs.Raw.{raw_tree}
@@ -8,7 +8,6 @@ use Rattle.model.specs.Formats.{sha1}
 use Rattle.model.specs.Calls.{Answer, edited, root_only}
 use Rattle.model.specs.Write.{begun, requested, answered}
 use Rattle.model.specs.Script.{no_table}
-use Rattle.editor_terms.specs.Ids.{word_bytes}
 use Rattle.lines.specs.Hex.{hex_of}
 use Rattle.small_records.specs.Records.{EditRecord, Read, bad, good, reading}
 use Rattle.lines.specs.Texts.{decimal, line_of}
@@ -50,7 +49,7 @@ after_records (r ∷ rs) E = after_records rs (made_by r E).editor
 
 -- a count as an id of 20 bytes, the highest first
 unfoldable pub count_id : ℕ → Bytes
-count_id k = replicate 16 0 ++ word_bytes k
+count_id k = replicate 16 0 ++ (k / 16777216 ∷ k / 65536 % 256 ∷ k / 256 % 256 ∷ k % 256 ∷ [])
 
 -- the two lines of a request
 unfoldable pub request_lines : Held → Bytes

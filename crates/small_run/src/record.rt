@@ -19,6 +19,7 @@ use editor_terms::edit::{Edit, RemoveKind};
 use editor_terms::id::Id;
 use editor_terms::refusal::Refusal;
 use editor_terms::table::Table;
+use names::limits::WIDTH;
 use small_records::record::{EditRecord, Op};
 use store_slots::Store;
 
@@ -27,9 +28,9 @@ fn id_of(digits: &[u8]) -> Id
     requires { (hexed digits.now ≡ true) × (length (bytes_of digits.now) ≡ 20) }
     ensures { id_bytes result ≡ bytes_of digits.now }
 {
-    let mut id = [0u8; 20];
-    lines::hex::decode(&mut id, 0, digits);
-    editor_terms::id::id_at(&id, 0)
+    let mut id = Id::NULL;
+    lines::hex::decode(&mut id.bytes, 0, digits);
+    id
 }
 
 // The edit that a record says, with the digits of its id.
@@ -107,7 +108,7 @@ pub fn make_edits(s: &mut Store<'_>, order: &[u64], input: &[u8], out: &mut [u8]
     let mut at = 0;
     let mut k = 1;
     let mut to = 0;
-    while let Ok(Some(record)) = small_records::record::next_record(input, at, 20) {
+    while let Ok(Some(record)) = small_records::record::next_record(input, at, WIDTH) {
         to = make_record(s, order, input, record, k, out, to)?;
         at = record.next;
         k += 1;

@@ -6,11 +6,16 @@ ghost use Rattle.small_records.specs.Records.{EditRecord, good as goodInput, rea
 ghost use Rattle.small_run.specs.Lesson.{record_lines, after_records, saved, output};
 ghost use Rattle.small_run.specs.Puts.{Puts, Gives};
 
-use names::limits::{PATH_BYTES, SLOTS, TREE_BYTES};
+use names::limits::{PATH_BYTES, SLOTS, TREE_BYTES, WIDTH};
 use store_slots::{Record, Store};
 
 // Over a store that holds an empty root: the records, then the write.
-fn run_over_store(s: &mut Store<'_>, order: &mut [u64], input: &[u8], out: &mut [u8]) -> Option<usize>
+fn run_over_store(
+    s: &mut Store<'_>,
+    order: &mut [u64],
+    input: &[u8],
+    out: &mut [u8],
+) -> Option<usize>
     requires { Good (lent_in s.old order.old) × (length input.now ≤ 65536) × ((rs : List EditRecord) × (reading 20 input.now ≡ goodInput rs)) }
     ensures { (rs : List EditRecord) → reading 20 input.now ≡ goodInput rs
         → Puts out.old 0 (record_lines 1 rs (viewed (lent_in s.old order.old)) ++ saved (after_records rs (viewed (lent_in s.old order.old)))) result out.new }
@@ -55,7 +60,7 @@ fn run_good_input(input: &[u8], out: &mut [u8]) -> Option<usize>
 fn run_input(input: &[u8], out: &mut [u8]) -> Option<usize>
     ensures { Puts out.old 0 (output input.now) result out.new }
 {
-    match small_records::form::first_bad(input, 20) {
+    match small_records::form::first_bad(input, WIDTH) {
         Ok(_) => run_good_input(input, out),
         Err(bad) => lines::text::put_number_line(out, 0, b"bad", bad.line as u64),
     }

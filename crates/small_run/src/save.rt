@@ -24,7 +24,13 @@ fn counted(k: u32) -> Id
 }
 
 // Writes the two lines of the open request, its path and its raw tree, and gives the place after them.
-fn put_request(v: View<'_>, order: &[u64], raw: &mut [u8], out: &mut [u8], to: usize) -> Option<usize>
+fn put_request(
+    v: View<'_>,
+    order: &[u64],
+    raw: &mut [u8],
+    out: &mut [u8],
+    to: usize,
+) -> Option<usize>
     requires { Good (lent_seen v order.now) × (45056 ≤ length raw.old) × (to ≤ length out.old) × ((h : Held) × (requested (viewed (lent_seen v order.now)) ≡ some h)) }
     ensures { (h : Held) → requested (viewed (lent_seen v.entry order.now)) ≡ some h → Puts out.old to (request_lines h) result out.new }
 {
@@ -40,7 +46,14 @@ fn put_request(v: View<'_>, order: &[u64], raw: &mut [u8], out: &mut [u8], to: u
 }
 
 // Tells the open request, and answers it with its number: gives the place after what was written.
-fn make_request(s: &mut Store<'_>, order: &mut [u64], raw: &mut [u8], out: &mut [u8], to: usize, k: u32) -> Option<usize>
+fn make_request(
+    s: &mut Store<'_>,
+    order: &mut [u64],
+    raw: &mut [u8],
+    out: &mut [u8],
+    to: usize,
+    k: u32,
+) -> Option<usize>
     requires { Good (lent_in s.old order.old) × (45056 ≤ length raw.old) × (to ≤ length out.old) × ((h : Held) × (requested (viewed (lent_in s.old order.old)) ≡ some h)) }
     ensures editor { Leaves (answered sha1 (count_id k) (viewed (lent_in s.old order.old))) (lent_in s.new order.new) }
     ensures put { (h : Held) → requested (viewed (lent_in s.old order.old)) ≡ some h → Puts out.old to (request_lines h) result out.new }
@@ -52,13 +65,20 @@ fn make_request(s: &mut Store<'_>, order: &mut [u64], raw: &mut [u8], out: &mut 
 }
 
 // All requests of an open write, and the root's id, which is the last one's number.
-fn requests(s: &mut Store<'_>, order: &mut [u64], raw: &mut [u8], out: &mut [u8], to: usize) -> Option<usize>
+fn requests(
+    s: &mut Store<'_>,
+    order: &mut [u64],
+    raw: &mut [u8],
+    out: &mut [u8],
+    to: usize,
+) -> Option<usize>
     requires { Good (lent_in s.old order.old) × (45056 ≤ length raw.old) × (to ≤ length out.old) }
     ensures put { Puts out.old to (write_lines 65 0 (viewed (lent_in s.old order.old))) result out.new }
     ensures lent { SameLent s.old s.new }
 {
     let mut at = to;
     let mut k: u32 = 0;
+    // Stays: what is open, and not a count, ends it; a range would want a bound that is never met, and k is told after the end.
     while s.ed.open != 0 {
         k += 1;
         at = make_request(s, order, raw, out, at, k)?;

@@ -16,5 +16,5 @@ pub returns : goal.returns
 returns c =
     let a = c.args in
     let path = c.front-p.ensures ∙ decoded_front _ a.digits.now c.decode.result _ c.requires.1 (omega (arith, c.requires.2)) c.decode.ensures _ (sym (length_bytes a.digits.now)) in
-    let old = did_at (λ (p : Bytes). edited sha1 no_table (as_edit a.edit) false [] p) _ _ path c.edit.ensures c.requires.0 in
-    record { code = old.0; editor = old.1 }
+    let old = did_at (λ (p : Bytes). edited sha1 no_table (as_edit a.edit) false [] p) _ _ path c.edit.ensures.done c.requires.0 in
+    record { code = old.0; editor = old.1; lent = c.edit.ensures.lent }

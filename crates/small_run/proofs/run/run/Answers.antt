@@ -1,20 +1,12 @@
--- `small_run::run::run` meets its contract: what fits is given, and where the text does not fit nothing of it is left. Assumes nothing.
-use Prim.Native.Nat.{ℕ}
-use mathlib.Core.Path.{◌≡◌, refl, ap, ◌∙◌}
+-- `small_run::run::run` meets its contract: every output fits into 303,104 bytes. Assumes nothing.
 use native.Mathlib.Omega.{arith}
-use lib.ListN.{length, replicate}
-use Rattle.small_run.specs.Lesson.{output}
-use Rattle.small_run.proofs.PutLaws.{put_told, put_refused}
-use Rattle.small_run.proofs.FitLaws.{output_fits}
 use borrow.Author.Rules.{rules}
+use Rattle.small_run.specs.Lesson.{output}
+use Rattle.small_run.proofs.PutLaws.{put_refused}
+use Rattle.small_run.proofs.FitLaws.{output_fits}
 use Rattle.small_run.proofs.run.run.Goals as goal
 
-pub returns-in-At : goal.returns-in-At
-returns-in-At c = record { output = put_told c.run_input.ensures c.in-At.is; whole = λ h. (_, refl) }
-
-pub returns-in-Refused : goal.returns-in-Refused
-returns-in-Refused c =
+pub returns-then-is_none-clause-whole : goal.returns-then-is_none-clause-whole
+returns-then-is_none-clause-whole c =
     let a = c.args in
-    let l : length c.run_input.new.out ≡ length a.out.now = search rules in
-    let p = put_refused a.out.now 0 (output a.input.now) c.run_input.new.out c.run_input.ensures c.in-Refused.is in
-    record { output = (omega (arith, p), c.clear.ensures ∙ ap (λ (n : ℕ). replicate n 0) l); whole = λ h. absurd (omega (arith, p, h, output_fits a.input.now)) }
+    λ h. absurd (omega (arith, put_refused a.out.now 0 (output a.input.now) c.run_input-put.new.out c.run_input-put.ensures (search (rules, c.is_none.ensures, c.if-is_none.true)), h, output_fits a.input.now))

@@ -9,14 +9,11 @@ use Rattle.small_run.proofs.RunLaws.{output_bad, good_form}
 use Rattle.small_run.proofs.run.run_input.Goals as goal
 
 pub run_good_input-requires : goal.run_good_input-requires
-run_good_input-requires c = good_form c.args.input.now _ (sym (ap as_form c.in-Good.is) ∙ c.first_bad.ensures)
+run_good_input-requires c = good_form c.args.input.now _ (sym (ap as_form c.in-Ok.is) ∙ c.first_bad.ensures)
 
-pub returns-in-Bad : goal.returns-in-Bad
-returns-in-Bad c =
+pub returns-in-Err : goal.returns-in-Err
+returns-in-Err c =
     let a = c.args in
     subst (λ (l : Bytes). Puts a.out.now 0 l c.put_number_line.result c.put_number_line.new.out)
-    (output_bad a.input.now _ (sym (ap as_form c.in-Bad.is) ∙ c.first_bad.ensures))
+    (output_bad a.input.now _ (sym (ap as_form c.in-Err.is) ∙ c.first_bad.ensures))
     (puts a.out.now 0 (omega arith) _ c.put_number_line.result c.put_number_line.new.out c.put_number_line.ensures)
-
-pub returns-in-Good : goal.returns-in-Good
-returns-in-Good c = c.run_good_input.ensures

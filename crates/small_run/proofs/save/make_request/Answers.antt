@@ -5,5 +5,5 @@ use Rattle.model.specs.Write.{answered}
 use Rattle.small_run.proofs.RecordLaws.{did_at}
 use Rattle.small_run.proofs.save.make_request.Goals as goal
 
-pub returns : goal.returns
-returns c = record { editor = (did_at (λ (b : Bytes). answered sha1 b) _ _ c.counted.ensures c.answer-a.ensures c.requires.0).1; put = λ h q. c.put_request-put.ensures h q }
+pub returns-clause-editor : goal.returns-clause-editor
+returns-clause-editor c = (did_at (λ (b : Bytes). answered sha1 b) _ _ c.counted.ensures c.answer.ensures.done c.requires.0).1

@@ -1,14 +1,20 @@
-use mathlib.Core.Path.{◌≡◌}
-use lib.ListN.{length}
-use Rattle.editor.specs.Lent.{lent, viewed}
+use Prim.Native.Nat.{ℕ}
+use mathlib.Core.List.{List}
+use Rattle.model.specs.Bytes.{Bytes}
+use Rattle.store_slots.specs.Stores.{SameLent}
+use Rattle.store_slots.specs.declared.Store.{Store}
+use Rattle.editor.specs.Lent.{lent_in, viewed}
 use Rattle.small_run.specs.Lesson.{write_lines}
 use Rattle.small_run.proofs.SaveLaws.{pending, Saving}
 use Rattle.small_run.proofs.save.requests.Given as goal
 
-abbrev pub invariant-loop-now : goal.invariant-loop-now
-invariant-loop-now l =
-    Saving (write_lines 65 0 (viewed (lent l.initial.now l.initial.plens l.initial.paths l.initial.tlens l.initial.trees l.initial.order))) l.initial.out l.initial.at (lent l.now l.plens l.paths l.tlens l.trees l.order) l.k l.at l.out l.raw
-    × (length l.plens ≡ length l.initial.plens) × (length l.paths ≡ length l.initial.paths) × (length l.tlens ≡ length l.initial.tlens) × (length l.trees ≡ length l.initial.trees) × (length l.order ≡ length l.initial.order) × (length l.raw ≡ length l.initial.raw) × (length l.out ≡ length l.initial.out)
+-- so many requests are answered and told, in the lent store
+pub record Saved (s₀ : Store) (order₀ : List ℕ) (d₀ : Bytes) (to₀ : ℕ) (s : Store) (order : List ℕ) (k to : ℕ) (d raw : Bytes) : Type 0 where
+  pub law : Saving (write_lines 65 0 (viewed (lent_in s₀ order₀))) d₀ to₀ (lent_in s order) k to d raw
+  pub lent : SameLent s₀ s
 
-abbrev pub decreases-loop-now : goal.decreases-loop-now
-decreases-loop-now l = pending (viewed (lent l.now l.plens l.paths l.tlens l.trees l.order))
+abbrev pub invariant-loop-s : goal.invariant-loop-s
+invariant-loop-s l = Saved l.initial.s l.initial.order l.initial.out l.initial.at l.s l.order l.k l.at l.out l.raw
+
+abbrev pub decreases-loop-s : goal.decreases-loop-s
+decreases-loop-s l = pending (viewed (lent_in l.s l.order))
