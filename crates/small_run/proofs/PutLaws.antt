@@ -55,9 +55,6 @@ put_told {d} {at} {s} {r} {n} {e} p q = subst (λ (x : Option ℕ). Puts d at s 
 pub put_refused : (d : Bytes) (at : ℕ) (s : Bytes) {r : Option ℕ} (e : Bytes) → Puts d at s r e → r ≡ None → length d < at + length s
 put_refused d at s {r} e p q = subst (λ (x : Option ℕ). Puts d at s x e) q p
 
-pub refused_other : (n : ℕ) → None ≡ Some n → ⊥
-refused_other n e = let z : ◌≡◌ {A = ℕ} 0 1 = cc in omega arith
-
 module _ {d : Bytes} {at : ℕ} {s : Bytes} where
   pub puts_then : {n : ℕ} {e : Bytes} → PutAt d at s n e → (t : Bytes) (r : Option ℕ) (f : Bytes) → Puts e n t r f → Puts d at (s ++ t) r f
   puts_then p t (Some m) f q =

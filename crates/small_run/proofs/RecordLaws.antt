@@ -10,23 +10,20 @@ use lib.ListN.{length, take, length-take, length-drop}
 use borrow.Author.Tests.{eqb-true, eqb-false, ne_eqb, le-leb}
 use Rattle.std.specs.Prelude.{Option, Some, None}
 use Rattle.model.specs.Bytes.{Bytes}
-use Rattle.model.specs.Calls.{Answer, edited}
+use Rattle.model.specs.Calls.{Answer}
 use Rattle.model.specs.Editor.{Editor}
-use Rattle.model.specs.Formats.{sha1}
-use Rattle.model.specs.Script.{no_table}
-use Rattle.model.specs.Walk.{Edit}
 use Rattle.names.specs.Splice.{splice}
 use Rattle.names.proofs.WriteLaws.{splice_front}
 use Rattle.editor.specs.Lent.{Lent, Good, viewed, Does}
 use Rattle.lines.specs.Answers.{outcome}
 use Rattle.lines.specs.Hex.{hexed, bytes_of}
 use Rattle.lines.specs.Places.{text_at}
-use Rattle.small_records.specs.Places.{Found, found, next_at, record_found}
-use Rattle.small_records.specs.Records.{edit_of, good_id}
+use Rattle.small_records.specs.Places.{Found, found, next_at}
+use Rattle.small_records.specs.Records.{good_id}
 use Rattle.lines.specs.Texts.{Written, decimal, line_of, written, decoded}
 use Rattle.small_records.proofs.FormLaws.{standing}
 use Rattle.lines.proofs.TextLaws.{length_bytes}
-use Rattle.small_run.specs.Lesson.{edit_key, code_key, refusal, made_by}
+use Rattle.small_run.specs.Lesson.{edit_key, code_key, refusal}
 use Rattle.small_run.specs.Puts.{PutAt, Puts, Leaves}
 use Rattle.small_run.proofs.PutLaws.{out_of, put_nothing, both_put, first_stops}
 
@@ -86,7 +83,3 @@ module _ (s : Bytes) (at : ℕ) {g : Found} (e : next_at 20 s at ≡ found g) (l
   path_digits q h =
       let n : length (text_at s g.path) ≤ 65536 = rw (length-take, length-drop) (omega arith) in
       (ap hexed q ∙ (standing 20 s at e).path_hex, omega (arith, n, ap length q, length_bytes l))
-
--- the edit that its digits say is the one of the definition
-pub made_is : (s : Bytes) (g : Found) (E : Edit) (p : Bytes) → E ≡ edit_of g.op (text_at s g.id) → p ≡ text_at s g.path → (N : Editor) → edited sha1 no_table E false [] (bytes_of p) N ≡ made_by (record_found s g) N
-made_is s g E p x y N = rw (x, y)

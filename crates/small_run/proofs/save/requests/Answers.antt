@@ -11,9 +11,6 @@ loop-s-init c =
     let a = c.args in
     record { law = saving_begin (lent_in a.s.now a.order.now) a.out.now a.to a.raw.now c.requires.0 c.requires.1 c.requires.2; lent = search rules }
 
-pub overflow_add-k : goal.overflow_add-k
-overflow_add-k c = omega (arith, c.loop-s.invariant.law.few)
-
 pub make_request-requires : goal.make_request-requires
 make_request-requires c =
     let m = c.loop-s.invariant.law in
