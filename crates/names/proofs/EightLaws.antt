@@ -8,20 +8,57 @@ use Rattle.names.specs.Answers.{as_ordering}
 use Prim.Native.Nat.{ℕ, zero, suc, ◌+◌, ◌-◌, ◌*◌, ◌≤◌, ◌<◌, ◌/◌, ◌%◌}
 use mathlib.Core.Path.{◌≡◌, refl, sym, ap, ◌∙◌}
 use mathlib.Core.List.{[], ◌∷◌, ◌++◌}
-use mathlib.Core.Bool.{Bool, true, false}
+use mathlib.Core.Bool.{Bool, true, false, not, ◌&&◌, ◌||◌}
 use native.Mathlib.Omega.{arith}
 use lib.Dec.{eqb, ltb}
-use lib.ListN.{length, take, drop, get_or, length-drop, take-append-drop}
-use lib.Seq.{take_all, take-add, take-take, get_or-drop, length-take-le}
+use lib.ListN.{length, take, drop, get_or, length-drop, take-append-drop, drop_of_length-le}
+use lib.Seq.{drop-cons, drop-drop, take_all, take-add, take-take, get_or-drop, length-take-le}
 use borrow.Author.Tests.{eqb-true, eqb-false, ltb-true, ltb-false}
-use Rattle.model.specs.Bytes.{Bytes, cmp, same}
+use Rattle.model.specs.Bytes.{Bytes, cmp, has, same}
 use Rattle.model.specs.Tree.{as_kind}
 use Rattle.std.specs.Int.{w64, from_le_bytes, swap_bytes}
-use Rattle.model.proofs.Basics.{no_way}
-use Rattle.model.proofs.ByteLaws.{same_eq, same_of}
+use Rattle.model.proofs.Basics.{and_false, no_way}
+use Rattle.model.proofs.ByteLaws.{has_here, has_past, same_eq, same_of}
 use Rattle.names.specs.Check.{Lower, plain}
 use Rattle.names.specs.Eight.{number, low_number, bytes_of, LowAt, AlikeTo}
 use Rattle.names.proofs.StandingLaws.{plain_append, plain_front, lower_less, lower_greater}
+
+-- the eight bytes at a place
+eight : (s : Bytes) (k : ℕ) → k + 8 ≤ length s →
+    take 8 (drop k s) ≡ get_or s k 0 ∷ get_or s (k + 1) 0 ∷ get_or s (k + 2) 0 ∷ get_or s (k + 3) 0 ∷ get_or s (k + 4) 0 ∷ get_or s (k + 5) 0 ∷ get_or s (k + 6) 0 ∷ get_or s (k + 7) 0 ∷ []
+eight s k h =
+    next 7 k (k + 1) refl (omega arith) (next 6 (k + 1) (k + 2) (omega arith) (omega arith) (next 5 (k + 2) (k + 3) (omega arith) (omega arith) (next 4 (k + 3) (k + 4) (omega arith) (omega arith)
+    (next 3 (k + 4) (k + 5) (omega arith) (omega arith) (next 2 (k + 5) (k + 6) (omega arith) (omega arith) (next 1 (k + 6) (k + 7) (omega arith) (omega arith)
+    (next 0 (k + 7) (k + 8) (omega arith) (omega arith) refl)))))))
+  where
+    next : (n k m : ℕ) → k + 1 ≡ m → k < length s → {l : Bytes} → take n (drop m s) ≡ l → take (suc n) (drop k s) ≡ get_or s k 0 ∷ l
+    next n k m e g q =
+        let z : suc k ≡ m = omega arith in
+        rw (drop-cons s k 0 g, z, q)
+
+-- whether one of the bytes is a slash or NUL, or one before them was
+abbrev pub odd : Bool → Bytes → Bool
+odd t [] = t
+odd t (x ∷ l) = odd (t || eqb x 0 || eqb x 47) l
+
+plain_cons : (x : ℕ) (l : Bytes) → plain (x ∷ l) ≡ (not (eqb x 0 || eqb x 47) && plain l)
+unfolding plain
+plain_cons x l = go (eqb x 0) refl (eqb x 47) refl
+  where
+    go : (p : Bool) → eqb x 0 ≡ p → (q : Bool) → eqb x 47 ≡ q → (not (has 47 (x ∷ l)) && not (has 0 (x ∷ l))) ≡ (not (p || q) && (not (has 47 l) && not (has 0 l)))
+    go true e q f = rw (has_here 0 x l (eqb-true x 0 e)) (and_false (not (has 47 (x ∷ l))))
+    go false e true f = rw (has_here 47 x l (eqb-true x 47 f))
+    go false e false f = rw (has_past 0 x l (eqb-false x 0 e), has_past 47 x l (eqb-false x 47 f))
+
+plain_odd : (t : Bool) (l : Bytes) → not (odd t l) ≡ (not t && plain l)
+unfolding plain
+plain_odd true [] = refl
+plain_odd false [] = refl
+plain_odd t (x ∷ l) = plain_odd (t || eqb x 0 || eqb x 47) l ∙ go t (eqb x 0) (eqb x 47) ∙ ap (λ (b : Bool). not t && b) (sym (plain_cons x l))
+  where
+    go : (t p q : Bool) → (not (t || p || q) && plain l) ≡ (not t && (not (p || q) && plain l))
+    go true p q = refl
+    go false p q = refl
 
 -- the first i bytes are plain
 pub record Front (s : Bytes) (i : ℕ) : Type 0 where
@@ -35,6 +72,11 @@ front_begin s = record { within = omega arith; good = refl }
 pub front_more : {s : Bytes} {i j : ℕ} (n : ℕ) → Front s i → i + n ≤ length s → plain (take n (drop i s)) ≡ true → j ≡ i + n → Front s j
 front_more {s} {i} n at h e q = rw q (record { within = h; good = ap plain (take-add i n s) ∙ plain_append (take i s) (take n (drop i s)) at.good ∙ e })
 
+pub plain_there : (s : Bytes) (k : ℕ) → k + 8 ≤ length s →
+    not (odd false (get_or s k 0 ∷ get_or s (k + 1) 0 ∷ get_or s (k + 2) 0 ∷ get_or s (k + 3) 0 ∷ get_or s (k + 4) 0 ∷ get_or s (k + 5) 0 ∷ get_or s (k + 6) 0 ∷ get_or s (k + 7) 0 ∷ []))
+    ≡ plain (take 8 (drop k s))
+plain_there s k h = ap (λ (l : Bytes). not (odd false l)) (sym (eight s k h)) ∙ plain_odd false (take 8 (drop k s))
+
 -- each part of a plain name is plain
 plain_part : (s : Bytes) (k n : ℕ) → plain (take n (drop k s)) ≡ false → false ≡ plain s
 plain_part s k n e = go (plain s) refl
@@ -46,17 +88,43 @@ plain_part s k n e = go (plain s) refl
         no_way (sym (plain_front (take n (drop k s)) (drop n (drop k s)) (ap plain (take-append-drop n (drop k s)) ∙ rest)) ∙ e)
     go false p = refl
 
-pub odd_there : (s : Bytes) (k n : ℕ) {r : Bool} → r ≡ plain (take n (drop k s)) → r ≡ false → false ≡ plain s
-odd_there s k n e f = plain_part s k n (sym e ∙ f)
+pub odd_either : (p q : Bool) (s : Bytes) (j k : ℕ) → p ≡ plain (take 8 (drop j s)) → q ≡ plain (take 8 (drop k s)) → (p && q) ≡ false → false ≡ plain s
+odd_either true true s j k e f h = no_way h
+odd_either true false s j k e f h = plain_part s k 8 (sym f)
+odd_either false q s j k e f h = plain_part s j 8 (sym e)
 
--- past a front that is plain, the last n bytes decide
-pub front_rest : {s : Bytes} {i : ℕ} (n : ℕ) → Front s i → n ≤ length s → length s ≤ i + n → {r : Bool} → r ≡ plain (take n (drop (length s - n) s)) → r ≡ plain s
-front_rest {s} {i} n at h g e =
-    let m = length s - n in
-    let front : plain (take m (take i s)) ≡ true = plain_front (take m (take i s)) (drop m (take i s)) (ap plain (take-append-drop m (take i s)) ∙ at.good) in
-    let part : take m (take i s) ≡ take m s = take-take m i s (omega arith) in
-    let last : take n (drop m s) ≡ drop m s = take_all n (drop m s) (omega (arith, length-drop m s)) in
-    e ∙ ap plain last ∙ sym (ap plain (sym (take-append-drop m s)) ∙ plain_append (take m s) (drop m s) (ap plain (sym part) ∙ front))
+-- i bytes from both ends of a name that are plain
+pub record Seen (s : Bytes) (i : ℕ) : Type 0 where
+  pub within : i ≤ length s
+  pub room : i < length s - i → i + 8 ≤ length s
+  pub front : plain (take i s) ≡ true
+  pub back : plain (drop (length s - i) s) ≡ true
+
+pub seen_begin : (s : Bytes) → 8 ≤ length s → Seen s 0
+unfolding plain
+seen_begin s h = record { within = omega arith; room = λ _. omega arith; front = refl; back = rw (drop_of_length-le s {i = length s - 0} (omega arith)) }
+
+module _ {s : Bytes} {i : ℕ} (at : Seen s i) where
+  pub seen_more : i < length s - i → plain (take 8 (drop i s)) ≡ true → plain (take 8 (drop (length s - 8 - i) s)) ≡ true → Seen s (i + 8)
+  seen_more h e f =
+      let r = at.room h in
+      let k = length s - 8 - i in
+      let p : length s - (i + 8) ≡ k = omega arith in
+      let q : k + 8 ≡ length s - i = omega arith in
+      let d : drop 8 (drop k s) ≡ drop (length s - i) s = drop-drop 8 k s ∙ ap (λ (n : ℕ). drop n s) q in
+      record {
+        within = r;
+        room = λ g. omega arith;
+        front = ap plain (take-add i 8 s) ∙ plain_append (take i s) (take 8 (drop i s)) at.front ∙ e;
+        back = ap (λ (n : ℕ). plain (drop n s)) p ∙ ap plain (sym (take-append-drop 8 (drop k s))) ∙ plain_append (take 8 (drop k s)) (drop 8 (drop k s)) f ∙ ap plain d ∙ at.back;
+      }
+
+  pub seen_end : length s - i ≤ i → true ≡ plain s
+  seen_end h =
+      let m = length s - i in
+      let front : plain (take m (take i s)) ≡ true = plain_front (take m (take i s)) (drop m (take i s)) (ap plain (take-append-drop m (take i s)) ∙ at.front) in
+      let part : take m (take i s) ≡ take m s = take-take m i s h in
+      sym (ap plain (sym (take-append-drop m s)) ∙ plain_append (take m s) (drop m s) (ap plain (sym part) ∙ front) ∙ at.back)
 
 -- bytes stay bytes in a part
 pub low_take : (n : ℕ) (l : Bytes) → ((i : ℕ) → get_or l i 0 < 256) → (i : ℕ) → get_or (take n l) i 0 < 256

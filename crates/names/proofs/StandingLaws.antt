@@ -2,16 +2,12 @@
 use Prim.Native.Nat.{ℕ, zero, suc, ◌+◌, ◌≤◌, ◌<◌, min, compare, Ordering}
 use mathlib.Core.Path.{◌≡◌, refl, sym, ap, ◌∙◌}
 use mathlib.Core.List.{[], ◌∷◌, ◌++◌}
-use mathlib.Core.Bool.{Bool, true, false, not, ◌&&◌, true≢false, false≢true}
+use mathlib.Core.Bool.{Bool, true, false, not, true≢false, false≢true}
 use native.Mathlib.Numerals.{add-one}
 use native.Mathlib.Omega.{arith}
-use lib.ListN.{length, take, drop, get_or, length-append, take-append-drop}
-use lib.Seq.{take-suc, drop-cons, take-append-le}
-use Rattle.std.proofs.Common.{◌⊎◌, ⊎_elim}
-use Rattle.std.specs.Bool.{MatchBool}
-use Rattle.std.specs.List.{AllWithin, HoldsAt, fold}
-use lib.Dec.{eqb}
-use borrow.Author.Tests.{le-leb, not-true, eqb-true, eqb-false}
+use lib.ListN.{length, take, drop, get_or, length-append, take-append-drop, drop_of_length-le}
+use lib.Seq.{drop-cons, take-append-le}
+use borrow.Author.Tests.{le-leb, not-true}
 use Rattle.model.specs.Bytes.{Bytes, cmp, by, same, has}
 use Rattle.model.specs.Tree.{as_kind, good_name}
 use Rattle.model.proofs.Basics.{and_left, and_right, and_false}
@@ -20,7 +16,6 @@ use Rattle.model.proofs.RawLaws.{name_no_nul}
 use Rattle.model.proofs.SoundTrees.{name_plain}
 use Rattle.names.proofs.OrderLaws.{in_name_lem, after_name, Comparing, ends_left, ends_right, ends_both, byte_less, byte_more}
 use Rattle.names.specs.Check.{Shorter, Shares, Lower, plain, besides}
-use Rattle.names.specs.Eight.{AlikeTo}
 use Rattle.names.specs.Standings.{StandsIn}
 use Rattle.names.specs.declared.neighbour.Standing.TheVariants.{Apart, Within, Wrong}
 
@@ -116,58 +111,6 @@ pub plain_front : (a b : Bytes) → plain (a ++ b) ≡ true → plain a ≡ true
 unfolding plain
 plain_front a b h = rw (has_front 47 a b (no_slash (a ++ b) h), has_front 0 a b (no_nul (a ++ b) h))
 
--- a byte that a plain name may have, and one that it may not
-abbrev pub Clear : ℕ → Type 0
-Clear b = (b ≡ 47 → ⊥) × (b ≡ 0 → ⊥)
-
-abbrev pub Odd : ℕ → Type 0
-Odd b = (b ≡ 47) ⊎ (b ≡ 0)
-
-plain_clear : (s : Bytes) → AllWithin Clear s 0 (length s) → plain s ≡ true
-unfolding plain
-plain_clear [] h = refl
-plain_clear (x ∷ s) h =
-    let c = h 0 0 (omega arith) (omega arith) in
-    rw (has_past 47 x s c.0, has_past 0 x s c.1) (plain_clear s (λ k d l g. h (suc k) d (omega arith) (omega arith)))
-
-plain_odd : (s : Bytes) (k : ℕ) → k < length s → Odd (get_or s k 0) → (t : Bool) → plain s ≡ t → false ≡ t
-plain_odd s k h o true e = ⊎_elim (λ p. absurd (has_at 47 k s (no_slash s e) h p)) (λ p. absurd (has_at 0 k s (no_nul s e) h p)) o
-plain_odd s k h o false e = refl
-
--- a test of each byte says whether all is plain
-pub plain_each : (s : Bytes) (r : Bool) → MatchBool r (AllWithin Clear s 0 (length s)) ((k : ℕ) × (k < length s) × HoldsAt Odd s k) → r ≡ plain s
-plain_each s true h = sym (plain_clear s h)
-plain_each s false (k, l, o) = plain_odd s k l (o 0) (plain s) refl
-
--- whether what was seen so far and one more byte is plain
-abbrev pub still_plain : Bool → ℕ → Bool
-still_plain t b = t && not (eqb b 47) && not (eqb b 0)
-
-plain_cons : (x : ℕ) (s : Bytes) → plain (x ∷ s) ≡ (not (eqb x 47) && (not (eqb x 0) && plain s))
-unfolding plain
-plain_cons x s = go (eqb x 47) refl (eqb x 0) refl
-  where
-    go : (p : Bool) → eqb x 47 ≡ p → (q : Bool) → eqb x 0 ≡ q → (not (has 47 (x ∷ s)) && not (has 0 (x ∷ s))) ≡ (not p && (not q && (not (has 47 s) && not (has 0 s))))
-    go true e q f = rw (has_here 47 x s (eqb-true x 47 e))
-    go false e true f = rw (has_here 0 x s (eqb-true x 0 f)) (and_false (not (has 47 (x ∷ s))))
-    go false e false f = rw (has_past 47 x s (eqb-false x 47 e), has_past 0 x s (eqb-false x 0 f))
-
-plain_seen : (t : Bool) (s : Bytes) → fold still_plain t s ≡ (t && plain s)
-unfolding plain
-plain_seen true [] = refl
-plain_seen false [] = refl
-plain_seen t (x ∷ s) = plain_seen (still_plain t x) s ∙ go t (eqb x 47) (eqb x 0) ∙ ap (λ (b : Bool). t && b) (sym (plain_cons x s))
-  where
-    go : (t p q : Bool) → ((t && not p && not q) && plain s) ≡ (t && (not p && (not q && plain s)))
-    go true true q = refl
-    go true false true = refl
-    go true false false = refl
-    go false p q = refl
-
--- a test of one byte after the other says whether all is plain
-pub plain_all : (s : Bytes) → fold still_plain true s ≡ plain s
-plain_all s = plain_seen true s
-
 -- what of a name is left from place i on
 pub record Plain (n : Bytes) (from i : ℕ) : Type 0 where
   pub rest : plain (drop from n) ≡ plain (drop i n)
@@ -175,14 +118,23 @@ pub record Plain (n : Bytes) (from i : ℕ) : Type 0 where
 pub plain_begin : (n : Bytes) (i : ℕ) → Plain n i i
 plain_begin n i = record { rest = refl }
 
-module _ {n : Bytes} {from i : ℕ} (at : Plain n from i) (h : i < length n) where
-  pub plain_slash : get_or n i 0 ≡ 47 → false ≡ plain (drop from n)
+module _ {n : Bytes} {from i : ℕ} (at : Plain n from i) where
+  pub plain_end : length n ≤ i → true ≡ plain (drop from n)
   unfolding plain
-  plain_slash e = sym (at.rest ∙ rw (drop-cons n i 0 h, has_here 47 (get_or n i 0) (drop (suc i) n) e))
+  plain_end h = sym (at.rest ∙ rw (drop_of_length-le n h))
 
-  pub plain_nul : get_or n i 0 ≡ 0 → false ≡ plain (drop from n)
-  unfolding plain
-  plain_nul e = sym (at.rest ∙ rw (drop-cons n i 0 h, has_here 0 (get_or n i 0) (drop (suc i) n) e) (and_false (not (has 47 (get_or n i 0 ∷ drop (suc i) n)))))
+  module _ (h : i < length n) where
+    pub plain_slash : get_or n i 0 ≡ 47 → false ≡ plain (drop from n)
+    unfolding plain
+    plain_slash e = sym (at.rest ∙ rw (drop-cons n i 0 h, has_here 47 (get_or n i 0) (drop (suc i) n) e))
+
+    pub plain_nul : get_or n i 0 ≡ 0 → false ≡ plain (drop from n)
+    unfolding plain
+    plain_nul e = sym (at.rest ∙ rw (drop-cons n i 0 h, has_here 0 (get_or n i 0) (drop (suc i) n) e) (and_false (not (has 47 (get_or n i 0 ∷ drop (suc i) n)))))
+
+    pub plain_more : (get_or n i 0 ≡ 47 → ⊥) → (get_or n i 0 ≡ 0 → ⊥) → Plain n from (i + 1)
+    unfolding plain
+    plain_more s z = record { rest = at.rest ∙ rw (add-one, drop-cons n i 0 h, has_past 47 (get_or n i 0) (drop (suc i) n) s, has_past 0 (get_or n i 0) (drop (suc i) n) z) }
 
 -- a name is good if it is plain, has some bytes and not too many
 pub good_is : (n : Bytes) → (length n ≡ 0 → ⊥) → length n ≤ 255 → good_name n ≡ plain n

@@ -40,33 +40,54 @@ pub fn alike_front(a: &[u8], b: &[u8], n: usize) -> usize
     n / 8 * 8
 }
 
-// Whether the N bytes from k on are neither slash nor NUL.
-fn plain_block<const N: usize>(s: &[u8], k: usize) -> bool
-    requires { k + N ≤ length s.now }
-    ensures { result ≡ plain (take N (drop k s.now)) }
+// Whether the eight bytes from k on are neither slash nor NUL.
+// Stays: with a fold over the eight bytes the check of an entry with 16 bytes of name takes 81 instructions in place of 62, and 71 are allowed.
+fn plain_eight(s: &[u8], k: usize) -> bool
+    requires { k + 8 ≤ length s.now }
+    ensures { result ≡ plain (take 8 (drop k s.now)) }
 {
-    s[k..k + N]
-        .iter()
-        .fold(true, |plain, &b| plain & (b != 47) & (b != 0))
+    let a = s[k];
+    let b = s[k + 1];
+    let c = s[k + 2];
+    let d = s[k + 3];
+    let e = s[k + 4];
+    let f = s[k + 5];
+    let g = s[k + 6];
+    let h = s[k + 7];
+    !((a == 0)
+        | (a == 47)
+        | (b == 0)
+        | (b == 47)
+        | (c == 0)
+        | (c == 47)
+        | (d == 0)
+        | (d == 47)
+        | (e == 0)
+        | (e == 47)
+        | (f == 0)
+        | (f == 47)
+        | (g == 0)
+        | (g == 47)
+        | (h == 0)
+        | (h == 47))
 }
 
-// Whether a name has neither slash nor NUL: sixteen bytes at a time, and the last sixteen; or its first eight and its last eight.
+// Whether a name has neither slash nor NUL: eight bytes at a time, from both ends.
 pub fn plain_name(s: &[u8]) -> bool
     ensures { result ≡ plain s.now }
 {
-    let n = s.len();
-    if n < 8 {
+    if s.len() < 8 {
         return crate::neighbour::plain_from(s, 0);
     }
-    if n < 16 {
-        return plain_block::<8>(s, 0) && plain_block::<8>(s, n - 8);
-    }
-    for k in 0..(n - 1) / 16 {
-        if !plain_block::<16>(s, 16 * k) {
+    let mut i = 0;
+    // Stays: it goes from both ends at once, and stops where they meet.
+    while i < s.len() - i {
+        if !(plain_eight(s, i) & plain_eight(s, s.len() - 8 - i)) {
             return false;
         }
+        i += 8;
     }
-    plain_block::<16>(s, n - 16)
+    true
 }
 
 // Whether two names are the same: those of eight to sixteen bytes by their first eight and their last eight.
@@ -88,7 +109,7 @@ pub fn plain_front(s: &[u8]) -> usize
     ensures { (result ≤ length s.now) × (plain (take result s.now) ≡ true) }
 {
     for k in 0..s.len() / 8 {
-        if !plain_block::<8>(s, 8 * k) {
+        if !plain_eight(s, 8 * k) {
             return 8 * k;
         }
     }

@@ -10,9 +10,16 @@ use crate::order::Key;
 pub fn plain_from(name: &[u8], from: usize) -> bool
     ensures { result ≡ plain_from name.now from }
 {
-    crate::part::after(name, from)
-        .iter()
-        .all(|&b| b != 47 && b != 0)
+    // Stays: by `iter().all(..)` the check of an entry with 6 bytes of name takes 120 instructions in place of 107, and 113 are allowed.
+    for i in from..name.len() {
+        if name[i] == 47 {
+            return false;
+        }
+        if name[i] == 0 {
+            return false;
+        }
+    }
+    true
 }
 
 // How an entry stands to the one before it: it may follow, and no later one has the name of the one before; it may follow; it may not.

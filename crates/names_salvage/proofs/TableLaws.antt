@@ -1,55 +1,77 @@
 -- Laws of the table: a slot goes in where the slots behind its place moved up, and its entry goes into the tree there. Assumes nothing.
 use Prim.Native.Nat.{ℕ, suc, ◌+◌, ◌-◌, ◌≤◌, ◌<◌}
-use mathlib.Core.Path.{◌≡◌, refl, sym, ap, ap₂, ◌∙◌}
+use mathlib.Core.Path.{◌≡◌, refl, sym, ap, ap₂, ◌∙◌, subst}
 use mathlib.Core.Bool.{true, false}
 use mathlib.Core.List.{List, ◌∷◌, ◌++◌, append_assoc}
 use native.Mathlib.Omega.{arith}
 use lib.Dec.{ltb, eqb}
 use borrow.Author.Tests.{ltb-true, ltb-false, eqb-true, eqb-false}
-use lib.ListN.{length, take, drop, get_or, set, length-append, length-take, length-drop, get_or-append}
-use lib.Seq.{length-take-le, take-take, take-append-le, set_split, drop_at, take_at, get_or-take, get_or-drop, get_or-append-add, get_or-append_seam}
-use Rattle.std.proofs.lemmas.List.{drop-take}
-use Rattle.std.specs.List.{copy_within}
+use lib.ListN.{length, take, drop, get_or, set, length-append, length-take, length-drop, length-set, drop_of_length-le, get_or-append}
+use lib.Seq.{length-take-le, take-take, take-set-le, drop-cons, set_split, drop_at, take_at, get_or-take, get_or-drop, get_or-append-add, get_or-append_seam}
 use Rattle.model.specs.Bytes.{Bytes}
 use Rattle.model.specs.Tree.{Entry, Tree}
 use Rattle.names_compact.specs.Compact.{blank}
 use Rattle.names_salvage.specs.Answers.{Stands, empty, Lists}
 use Rattle.names_salvage.specs.declared.table.Slot.{Slot}
 
--- a copy one place further, and a write at the place
-module _ {A : Type 0} (l : List A) (n i : ℕ) (x : A) (h : i ≤ n) (g : n < length l) where
-  abbrev up : List A
-  up = take (n - i) (drop i l)
+-- Slots moved up to make room: those from k on of the first n stand one place further on.
+pub record Moving {A : Type 0} (was is : List A) (n k : ℕ) : Type 0 where
+  pub within : k ≤ n
+  pub long : length is ≡ length was
+  pub low : take (suc k) is ≡ take (suc k) was
+  pub high : drop (suc k) is ≡ drop k (take n was) ++ drop (suc n) was
 
-  abbrev behind : List A
-  behind = drop (i + 1 + (n - i)) l
+pub move_begin : {A : Type 0} (l : List A) (n : ℕ) → n < length l → Moving l l n n
+move_begin {A} l n h =
+    record {
+      within = omega arith;
+      long = refl;
+      low = refl;
+      high = ap (λ (z : List A). z ++ drop (suc n) l) (sym (drop_of_length-le (take n l) {i = n} (omega (arith, length-take n l))));
+    }
 
-  abbrev copied : List A
-  copied = take (i + 1) l ++ (up ++ behind)
+moved_one : {A : Type 0} (d : A) (was is : List A) (n k : ℕ) → Moving was is n (suc k) → n < length was → Moving was (set is (suc k) (get_or is k d)) n k
+moved_one {A} d was is n k m h =
+    record {
+      within = omega (arith, m.within);
+      long = length-set is (suc k) (get_or is k d) ∙ m.long;
+      low = take-set-le (suc k) is (suc k) (get_or is k d) (omega arith) ∙ lower;
+      high = ap (drop (suc k)) (set_split is (suc k) (get_or is k d) there) ∙ drop_at (take (suc k) is) (get_or is k d ∷ drop (suc (suc k)) is) (suc k) (length-take-le (suc k) is (omega (arith, there)))
+          ∙ ap₂ (λ (x : A) (l : List A). x ∷ l) same m.high
+          ∙ sym (ap (λ (l : List A). l ++ drop (suc n) was) (drop-cons (take n was) k d (omega (arith, m.within, length-take-le n was (omega arith)))));
+    }
+  where
+    there : suc k < length is
+    there = omega (arith, m.within, m.long)
 
-  first : length (take (i + 1) l) ≡ i + 1
-  first = length-take-le (i + 1) l (omega arith)
+    lower : take (suc k) is ≡ take (suc k) was
+    lower = sym (take-take (suc k) (suc (suc k)) is (omega arith)) ∙ ap (take (suc k)) m.low ∙ take-take (suc k) (suc (suc k)) was (omega arith)
 
-  many : length up ≡ n - i
-  many = length-take-le (n - i) (drop i l) (omega (arith, length-drop i l))
+    same : get_or is k d ≡ get_or (take n was) k d
+    same =
+        sym (get_or-take (suc k) is k d (omega arith)) ∙ ap (λ (l : List A). get_or l k d) lower ∙ get_or-take (suc k) was k d (omega arith)
+        ∙ sym (get_or-take n was k d (omega (arith, m.within)))
 
-  low : take i copied ≡ take i (take n l)
-  low = take-append-le i (take (i + 1) l) (up ++ behind) (omega (arith, first)) ∙ take-take i (i + 1) l (omega arith) ∙ sym (take-take i n l h)
+pub move_step : {A : Type 0} (d : A) {was is : List A} {n : ℕ} (k : ℕ) → Moving was is n k → n < length was → 0 < k → Moving was (set is k (get_or is (k - 1) d)) n (k - 1)
+move_step {A} d {was} {is} {n} k m h g =
+    let q : k ≡ suc (k - 1) = omega arith in
+    subst (λ (z : ℕ). Moving was (set is z (get_or is (k - 1) d)) n (k - 1)) (sym q) (moved_one d was is n (k - 1) (subst (λ (z : ℕ). Moving was is n z) q m) h)
 
-  high : drop (suc i) copied ≡ up ++ behind
-  high = drop_at (take (i + 1) l) (up ++ behind) (suc i) (omega (arith, first))
+pub move_end : {A : Type 0} {was is : List A} {n k : ℕ} → Moving was is n k → n < length was → (i : ℕ) (v : A) → i ≤ k → k ≤ i → take (n + 1) (set is i v) ≡ take i (take n was) ++ (v ∷ drop i (take n was))
+move_end {A} {was} {is} {n} {k} m h i v f g =
+    let q : k ≡ i = omega arith in
+    ap (take (n + 1)) (set_split is i v (omega (arith, m.within, m.long)) ∙ ap₂ (λ (a b : List A). a ++ (v ∷ b)) low (ap (λ (j : ℕ). drop (suc j) is) (sym q) ∙ m.high ∙ ap (λ (j : ℕ). drop j (take n was) ++ drop (suc n) was) q)
+    ∙ sym (append_assoc (take i (take n was)) (v ∷ drop i (take n was)) (drop (suc n) was)))
+    ∙ take_at (take i (take n was) ++ (v ∷ drop i (take n was))) (drop (suc n) was) (n + 1) size
+  where
+    low : take i is ≡ take i (take n was)
+    low =
+        sym (take-take i (suc k) is (omega arith)) ∙ ap (take i) m.low ∙ take-take i (suc k) was (omega arith) ∙ sym (take-take i n was (omega (arith, m.within)))
 
-  same : up ≡ drop i (take n l)
-  same = sym (drop-take i (n - i) l) ∙ ap (λ (k : ℕ). drop i (take k l)) (let q : i + (n - i) ≡ n = omega arith in q)
-
-  size : length (take i (take n l) ++ (x ∷ up)) ≡ n + 1
-  size = length-append (take i (take n l)) (x ∷ up) ∙ omega (arith, many, length-take i (take n l), length-take n l)
-
-  pub inserted : (m : List A) → m ≡ copy_within l i n (i + 1) → take (n + 1) (set m i x) ≡ take i (take n l) ++ (x ∷ drop i (take n l))
-  inserted m e =
-      ap (λ (z : List A). take (n + 1) (set z i x)) (e ∙ append_assoc (take (i + 1) l) up behind) ∙ ap (take (n + 1)) (set_split copied i x (omega (arith, length-append (take (i + 1) l) (up ++ behind), first)))
-      ∙ ap (take (n + 1)) (ap₂ (λ (a b : List A). a ++ (x ∷ b)) low high ∙ sym (append_assoc (take i (take n l)) (x ∷ up) behind))
-      ∙ take_at (take i (take n l) ++ (x ∷ up)) behind (n + 1) size ∙ ap (λ (z : List A). take i (take n l) ++ (x ∷ z)) same
+    size : length (take i (take n was) ++ (v ∷ drop i (take n was))) ≡ n + 1
+    size =
+        length-append (take i (take n was)) (v ∷ drop i (take n was))
+        ∙ omega (arith, m.within, length-take-le n was (omega arith), length-take i (take n was), length-drop i (take n was))
 
 -- what stands at a place after an insertion
 module _ {A : Type 0} (l : List A) (i : ℕ) (x : A) (h : i ≤ length l) (d : A) where

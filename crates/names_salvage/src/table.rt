@@ -74,6 +74,20 @@ fn order_byte(name: &[u8], tree: bool, i: usize) -> u8
     }
 }
 
+// Puts a slot in before the place i of the first n, of which those behind move up.
+fn put_before(slots: &mut [Slot], n: usize, i: usize, slot: Slot)
+    requires { (i ≤ n) × (n < length slots.old) }
+    ensures { take (n + 1) slots.new ≡ take i (take n slots.old) ++ (slot ∷ drop i (take n slots.old)) }
+{
+    let mut k = n;
+    // Stays: `copy_within` would have the library ask for memmove, and README says that it needs memcpy and memset alone.
+    while i < k {
+        slots[k] = slots[k - 1];
+        k -= 1;
+    }
+    slots[i] = slot;
+}
+
 // The entries kept, of which there are at most 1,024.
 #[derive(Drop)]
 pub struct Table {
@@ -168,8 +182,7 @@ impl Table {
         requires { (i ≤ length self.old) × (length self.old < 1024) }
         ensures { self.new ≡ take i self.old ++ (slot ∷ drop i self.old) }
     {
-        self.slots.copy_within(i..self.len, i + 1);
-        self.slots[i] = slot;
+        put_before(&mut self.slots, self.len, i, slot);
         self.len += 1;
     }
 }

@@ -5,8 +5,6 @@ use Prim.Native.Nat.{ℕ, zero, suc, ◌+◌, ◌-◌, ◌≤◌, ◌<◌}
 use native.Mathlib.Nat.{zero-add}
 use native.Mathlib.Numerals.{add-one}
 use native.Mathlib.Omega.{arith}
-use borrow.Author.Tests.{eq-eqb, ne_eqb}
-use lib.Dec.{eqb}
 use lib.ListN.{length, take, drop, get_or, set, replicate, length-append, take-append-drop, length-drop}
 use lib.Seq.{set-get_or, take_at, drop_at, set_at, length-take-le, take-suc, drop-drop, take-append-le, drop-append-le, split_at}
 use Rattle.std.specs.List.{sum}

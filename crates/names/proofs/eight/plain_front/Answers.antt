@@ -8,4 +8,4 @@ pub loop-k-init : goal.loop-k-init
 loop-k-init c = front_begin _
 
 pub loop-k-preserved : goal.loop-k-preserved
-loop-k-preserved c = front_more 8 c.loop-k.invariant (omega arith) (sym c.plain_block.ensures ∙ c.if-not-plain_block.false) (omega arith)
+loop-k-preserved c = front_more 8 c.loop-k.invariant (omega arith) (sym c.plain_eight.ensures ∙ c.if-not-plain_eight.false) (omega arith)

@@ -1,6 +1,10 @@
-use Prim.Native.Nat.{◌*◌}
-use Rattle.names.proofs.EightLaws.{Front}
+use Prim.Native.Nat.{◌-◌}
+use lib.ListN.{length}
+use Rattle.names.proofs.EightLaws.{Seen}
 use Rattle.names.proofs.eight.plain_name.Given as goal
 
-abbrev pub invariant-loop-k : goal.invariant-loop-k
-invariant-loop-k l = Front l.s (16 * l.k)
+abbrev pub invariant-loop-i : goal.invariant-loop-i
+invariant-loop-i l = Seen l.s l.i
+
+abbrev pub decreases-loop-i : goal.decreases-loop-i
+decreases-loop-i l = length l.s - l.i
