@@ -72,7 +72,8 @@ fn plain_eight(s: &[u8], k: usize) -> bool
         | (h == 47))
 }
 
-// Whether a name has neither slash nor NUL: eight bytes at a time, from both ends.
+// Whether a name has neither slash nor NUL: eight bytes at a time, from both ends. A call in its place costs the check of a store 12 instructions an entry.
+#[inline(always)]
 pub fn plain_name(s: &[u8]) -> bool
     ensures { result ≡ plain s.now }
 {
