@@ -54,6 +54,7 @@ fn edit_held(
 }
 
 // The same over the record and its slices.
+// Stays: parts as parameters; of fronts put into a `Store` at once the check made no proof (tried).
 fn edit_exact(
     ed: &mut Record,
     plens: &mut [u64],

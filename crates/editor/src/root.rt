@@ -29,6 +29,7 @@ fn root_only(s: &mut Store<'_>, raw: &[u8], size: Size)
 }
 
 // The same in the record and its slices.
+// Stays: parts as parameters; of fronts put into a `Store` at once the check made no proof (tried).
 fn root_exact(
     ed: &mut Record,
     plens: &mut [u64],

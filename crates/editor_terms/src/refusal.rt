@@ -44,6 +44,7 @@ impl From<Refusal> for u8 {
 }
 
 // The number of an answer: 0 where the call is done.
+// Stays: neither u8 nor Result is a type of this repository, so that no From can be written.
 pub fn number(answer: Result<(), Refusal>) -> u8
     ensures { result ≡ code_number answer }
 {

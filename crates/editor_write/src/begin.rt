@@ -15,6 +15,7 @@ use names::limits::{PATH_BYTES, SLOTS, TREE_BYTES, WIDTH};
 use store_slots::{Record, Store};
 
 // Where a write begins.
+// Stays: no Option, for Root is as much a place to begin at as a cursor, with a number of its own in the record.
 #[derive(Clone, Copy)]
 enum Start<'a> {
     Root,

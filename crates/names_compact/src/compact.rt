@@ -23,7 +23,7 @@ pub fn kind_byte(kind: EntryKind) -> u8
 }
 
 // The kind that a byte stands for.
-// Stays: EntryKind is a type of `names`, for which this crate cannot write a From<u8>.
+// Stays: the byte is this form's own, so its conversion is not for `names`, whose type EntryKind is; here a From<u8> for it cannot be written.
 pub fn kind_of(byte: u8) -> EntryKind
     ensures { as_mode result ≡ mode_at byte }
 {

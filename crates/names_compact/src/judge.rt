@@ -180,7 +180,6 @@ impl<'a> Check<'a> {
 }
 
 // Whether the bytes are a well-formed tree in compact form, and how many entries and bytes of names it then has.
-#[inline(never)]
 pub fn judge(tree: &[u8], width: usize) -> Option<Size>
     ensures { checked_as result ≡ size_of (compact_tree width tree.now) }
 {

@@ -9,6 +9,7 @@ use lines::line::Span;
 use names::mode::{EntryKind, Mode};
 
 // What an `op=` line says.
+// Stays: beside Op, since the kind that an upsert has comes two lines later.
 #[derive(Clone, Copy, PartialEq, Eq)]
 pub enum Verb {
     Upsert,

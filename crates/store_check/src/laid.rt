@@ -93,7 +93,8 @@ impl<'a> Runs<'a> {
         self.good_paths() && self.apart(map)
     }
 
-    // Whether each tree is well formed, and there are so many entries and name bytes in all.
+    // Whether each tree is well formed, and there are so many entries and name bytes in all. By itself, so that what it works with stays in registers.
+    #[inline(never)]
     fn trees_good(self, width: usize, all: Size) -> bool
         ensures { Decides (Trees width (cut self.entry.lens.now self.entry.bytes.now) all.entries all.name_bytes) result }
     {

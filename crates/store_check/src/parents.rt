@@ -85,6 +85,7 @@ struct Walk {
 }
 
 // How far down slots of the table are known to be those of children, and whether a path that comes after theirs is known to be a child's too.
+// Stays: the flag is no sign that the number is missing; each of the two is known without the other.
 #[derive(Clone, Copy)]
 pub struct Known {
     pub low: usize,
@@ -107,7 +108,7 @@ impl<'a> Parent<'a> {
     {
         let tree = self.tree.bytes;
         let mut a = at;
-        // Stays: entries differ in length, so a place goes on from entry to entry; it is no index that is counted.
+        // Stays: it begins in the middle of a tree, at a place of an entry, and such a place is its answer.
         while a < tree.len() {
             let lo = a + 2 + self.tree.width;
             let hi = lo + tree[a + 1] as usize;

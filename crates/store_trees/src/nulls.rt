@@ -34,7 +34,7 @@ fn close_up(run: &mut [u8], width: usize) -> Left
     let mut at = 0;
     let mut used = 0;
     let mut gone = 0;
-    // Stays: entries differ in length, so a place goes on from entry to entry; it is no index that is counted.
+    // Stays: the run is written while it is read, so no iterator over its entries can hold it.
     while at < run.len() {
         let m = 2 + width + run[at + 1] as usize;
         let end = at + m;

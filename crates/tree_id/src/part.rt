@@ -6,14 +6,14 @@ ghost use Rattle.tree_id.specs.Parts.{Part};
 use names_compact::compact::Tree;
 
 // How many bytes those entries take that come first and whose raw form surely fits 512 bytes: one entry at least.
-// Stays: (c) the bytes and the width, and no Tree: tried, and that a byte of a Tree is below 256 was not to be had in the proof.
+// Stays: the bytes and the width, and no Tree: tried, and that a byte of a Tree is below 256 was not to be had in the proof.
 fn first_part(bytes: &[u8], width: usize) -> usize
     requires { Run width bytes.now × (width ≤ 64) × (0 < length bytes.now) }
     ensures { (0 < result) × (result ≤ length bytes.now) × Part width bytes.now (take result bytes.now) (drop result bytes.now) 512 }
 {
     let mut at = 0;
     let mut size = 0;
-    // Stays: (d) an entry tells itself how long it is, so that no range of places stands for the entries.
+    // Stays: the iterator over entries is that of a Tree, and these are bytes.
     while at < bytes.len() {
         let n = bytes[at + 1] as usize;
         let more = size + 8 + n + width;
