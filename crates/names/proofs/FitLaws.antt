@@ -203,6 +203,17 @@ none_empty (e ∷ es) h = go (same [] e.name) refl (none_empty es h.2)
     go true q ih = absurd (false≢true (ap good_name (same_eq [] e.name q) ∙ h.0))
     go false q ih = ih
 
+-- any good name may stand first
+pub fit_first : {p : Bytes} {pt : Bool} {n : Bytes} {t : Bool} {later : Option Tree} → p ≡ [] → pt ≡ false → good_name n ≡ true → FitsIs p pt n t later true
+fit_first {p} {pt} {n} {t} e f g =
+    let x : besides p pt n t ≡ true = ap (λ (l : Bytes). besides l pt n t) e ∙ ap (λ (b : Bool). besides [] b n t) f ∙ first_besides n t g in
+    record {
+      may = λ q. x;
+      is = λ es q w.
+          let a : among p (names_of es) ≡ false = ap (λ (l : Bytes). among l (names_of es)) e ∙ none_empty es (proper (as_kind t n) es (past_after n t es w)) in
+          rw (x, a);
+    }
+
 past_nothing : (es : Tree) → well_after [] es ≡ well_past [] false es
 unfolding well_past
 past_nothing es = go (well_after [] es) refl

@@ -15,7 +15,7 @@ pub record Reads (held : ℕ → math.Option Tree) (end at : ℕ) (key : Key) (n
   pub forward : at < next
   pub inside : next ≤ end
 
--- an entry is read, or there is none
+-- an entry is read, or there is none: the bytes end there, or what stands there is no entry
 abbrev pub ReadsAs : (ℕ → math.Option Tree) → ℕ → ℕ → Option (Key × ℕ) → Type 0
 ReadsAs held end at (Some (key, next)) = Reads held end at key next
-ReadsAs held end at None = (t : Tree) → held at ≡ some t → t ≡ []
+ReadsAs held end at None = (t : Tree) → held at ≡ some t → (t ≡ []) × (end ≤ at)

@@ -20,9 +20,14 @@ pub trait Entries {
     // The key of the entry at a place, and where the next one starts.
     fn key_at(&self, at: usize) -> Option<(Key<'_>, usize)>
         ensures { ReadsAs (held self.now) (end self.now) at result };
+
+    // How many bytes there are.
+    fn len(&self) -> usize
+        ensures { result ≡ end self.now };
 }
 
-// Whether the tree of the name is among the entries from `from` on, up to the first that comes after it.
+// Whether the tree of the name is among the entries from `from` on, up to the first that comes after it, or what follows is damaged: so damage ends the
+// check where it is first met.
 fn has_twin<E: Entries>(entries: &E, from: usize, name: &[u8]) -> bool
     ensures { TwinIs name.now (E.held entries.now from) result }
 {
@@ -35,7 +40,7 @@ fn has_twin<E: Entries>(entries: &E, from: usize, name: &[u8]) -> bool
             Ordering::Greater => return false,
         }
     }
-    false
+    at < entries.len()
 }
 
 // Whether an entry may follow the one before it, where the entries from `next` on are well formed.

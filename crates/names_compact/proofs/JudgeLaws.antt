@@ -157,11 +157,11 @@ module _ (b : Bytes) (w at : ℕ) {r : code.Option ℕ} (er : end_as r ≡ end_a
   read_whole e = sym er ∙ ap end_as e
 
   -- nothing more is read: there is no more, or it is no entry
-  pub read_none : r ≡ None → (t : Tree) → held_at b w at ≡ some t → t ≡ []
+  pub read_none : r ≡ None → (t : Tree) → held_at b w at ≡ some t → (t ≡ []) × (length b ≤ at)
   read_none e t h = go (leb (length b) at) refl
     where
-      go : (q : Bool) → leb (length b) at ≡ q → t ≡ []
-      go true q = some_inj t [] (sym h ∙ held_end b w at (leb-true _ _ q))
+      go : (q : Bool) → leb (length b) at ≡ q → (t ≡ []) × (length b ≤ at)
+      go true q = (some_inj t [] (sym h ∙ held_end b w at (leb-true _ _ q)), leb-true _ _ q)
       go false q = none_some t (sym (read_damaged (leb-false _ _ q) e) ∙ h)
 
 module _ (b : Bytes) (w at : ℕ) {next : ℕ} (e : end_at b w at ≡ some next) where

@@ -1,10 +1,11 @@
 -- What the check of a tree in compact form says, and the entries that it finds in the bytes. Assumes nothing.
-use Rattle.std.specs.Prelude.{Option as Found, Some, None, ℕ, zero, suc, ◌+◌, ◌-◌, ◌≤◌, ◌≡◌, [], cond, ◌&&◌, leb, ltb, length, take, drop, get_or}
+use Rattle.std.specs.Prelude.{Option as Found, Some, None, Bool, false, ℕ, zero, suc, ◌+◌, ◌-◌, ◌≤◌, ◌<◌, ◌≡◌, [], cond, ◌&&◌, eqb, leb, ltb, length, take, drop, get_or}
 use Rattle.std.proofs.Math.Option.{Option, none, some}
 use Rattle.model.specs.Bytes.{Bytes, same}
-use Rattle.model.specs.Tree.{Entry, Tree}
+use Rattle.model.specs.Tree.{Entry, Tree, is_tree}
 use Rattle.model.specs.Raw.{more, if_good}
 use Rattle.names_compact.specs.Compact.{mode_at, packed_all, unpack}
+use Rattle.names.specs.Check.{size_of, Checking}
 use Rattle.names.specs.Eight.{number}
 
 -- Where the entry at `at` ends, if its kind is one of the five and its bytes are there.
@@ -40,3 +41,16 @@ compact_tree w b = cond (same b (packed_all (unpack w b))) (if_good w (some (unp
 pub record Head (n : Bytes) (x : ℕ) : Type 0 where
   pub long : 8 ≤ length n
   pub is : x ≡ number 0 (take 8 n)
+
+-- the name of the entry before the place `at`, which stands at `prev`; none is before the first place
+unfoldable pub name_before : Bytes → ℕ → ℕ → ℕ → Bytes
+name_before b w prev at = cond (eqb at 0) [] (entry_held b w prev).name
+
+-- whether the entry before the place `at` is a tree
+unfoldable pub tree_before : Bytes → ℕ → ℕ → Bool
+tree_before b prev at = cond (eqb at 0) false (is_tree (mode_at (get_or b prev 0)))
+
+-- a check of the bytes has come to the place `at` past n entries with k bytes of names, the last of which stands at `prev`
+pub record Reached (b : Bytes) (w at prev n k : ℕ) : Type 0 where
+  pub back : 0 < at → end_at b w prev ≡ some at
+  pub checking : Checking (size_of (compact_tree w b)) (length b) (held_at b w at) at n k (name_before b w prev at) (tree_before b prev at)

@@ -45,6 +45,14 @@ pub struct Tree<'a> {
     ghost narrow: { width ≤ 64 },
 }
 
+// The id of the entry i, which starts at `at`, of a tree that is those bytes.
+pub fn id_at<'a>(tree: &'a [u8], width: usize, at: usize, i: usize) -> &'a [u8]
+    requires { Run width tree.now × (at ≡ offset width tree.now i) × (i < length (unpack width tree.now)) }
+    ensures { result.now ≡ (entry_at width tree.now i).id }
+{
+    &tree[at + 2..at + 2 + width]
+}
+
 // Where a name is in a tree, or where it would stand: the number of the entry, its first byte, and how many names were compared.
 #[derive(Clone, Copy)]
 pub struct Place {
@@ -71,13 +79,12 @@ impl<'a> Tree<'a> {
         requires { (at ≡ offset self.width self.bytes.now i) × (i < length (unpack self.width self.bytes.now)) }
         ensures { shown result ≡ entry_at self.entry.width self.entry.bytes.now i }
     {
-        let id = at + 2;
-        let name = id + self.width;
+        let name = at + 2 + self.width;
         let next = name + self.bytes[at + 1] as usize;
         Entry {
             kind: kind_of(self.bytes[at]),
             name: &self.bytes[name..next],
-            id: &self.bytes[id..name],
+            id: id_at(self.bytes, self.width, at, i),
         }
     }
 
@@ -97,6 +104,19 @@ impl<'a> Tree<'a> {
         self.entry_at(at, i).kind
     }
 
+    // How a name stands to the entry i, which starts at `at`, in Git's order.
+    pub fn order_at(self, at: usize, i: usize, key: Key<'_>) -> Ordering
+        requires { (at ≡ offset self.width self.bytes.now i) × (i < length (unpack self.width self.bytes.now)) }
+        ensures { as_ordering result ≡ cmp (as_kind key.entry.tree key.entry.name.now) (key_of (entry_at self.entry.width self.entry.bytes.now i)) }
+    {
+        let e = self.entry_at(at, i);
+        let other = Key {
+            name: e.name,
+            tree: e.kind.is_tree(),
+        };
+        names::order::name_order(key, other)
+    }
+
     // Searches a name among the entries by halving, in file order or in tree order: where it is, else where it would stand.
     pub fn search(self, key: Key<'_>) -> Result<Place, Place>
         ensures { Tells self.entry.width self.entry.bytes.now (searched key_of (as_kind key.entry.tree key.entry.name.now) (unpack self.entry.width self.entry.bytes.now)) result }
@@ -109,13 +129,8 @@ impl<'a> Tree<'a> {
         while len > 0 {
             let half = len / 2;
             let middle = self.skip(at, index, half);
-            let e = self.entry_at(middle, index + half);
-            let other = Key {
-                name: e.name,
-                tree: e.kind.is_tree(),
-            };
             compared += 1;
-            match names::order::name_order(key, other) {
+            match self.order_at(middle, index + half, key) {
                 Ordering::Less => len = half,
                 Ordering::Equal => {
                     return Ok(Place {

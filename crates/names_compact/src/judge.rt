@@ -1,9 +1,9 @@
 // Whether bytes are a well-formed tree in compact form.
-ghost use Rattle.std.specs.Prelude.{◌≡◌, true, ◌+◌, ◌≤◌, length, take, drop, Some, IfSome};
+ghost use Rattle.std.specs.Prelude.{◌≡◌, true, ◌+◌, ◌≤◌, ◌<◌, length, take, drop, Some, IfSome};
 ghost use Rattle.names.specs.Answers.{checked_as};
-ghost use Rattle.names.specs.Check.{size_of, TwinIs, Lower, plain, FitsIs, Checking};
+ghost use Rattle.names.specs.Check.{size_of, TwinIs, Lower, plain, FitsIs};
 ghost use Rattle.model.specs.Tree.{is_tree};
-ghost use Rattle.names_compact.specs.Judge.{end_as, end_at, entry_held, held_at, compact_tree, Head};
+ghost use Rattle.names_compact.specs.Judge.{end_as, end_at, entry_held, held_at, compact_tree, Head, name_before, tree_before, Reached};
 
 use names::later::Entries;
 use names::order::Key;
@@ -57,6 +57,10 @@ impl<'a> Entries for Packed<'a> {
         let next = end_of(self.tree, self.width, at)?;
         Some((key_held(self.tree, self.width, at, next), next))
     }
+
+    fn len(&self) -> usize {
+        self.tree.len()
+    }
 }
 
 // The first eight bytes of a name as one number, if it has eight.
@@ -102,15 +106,15 @@ fn ahead(prev: &[u8], name: &[u8], last: u64, head: u64) -> bool
     names::eight::word_at(prev, k) < names::eight::word_at(name, k)
 }
 
-// A check that has come to the entry at `at`: the key of the entry before it, and what was counted.
+// A check that has come to the entry at `at`: where the entry before it starts, and what was counted.
 #[derive(Clone, Copy)]
 pub struct Check<'a> {
     tree: &'a [u8],
     width: usize,
     at: usize,
-    prev: Key<'a>,
+    prev: usize,
     size: Size,
-    ghost reached: { Checking (size_of (compact_tree width tree.now)) (length tree.now) (held_at tree.now width at) at size.entries size.name_bytes prev.name.now prev.tree },
+    ghost reached: { Reached tree.now width at prev size.entries size.name_bytes },
 }
 
 impl<'a> Check<'a> {
@@ -118,15 +122,13 @@ impl<'a> Check<'a> {
     fn start(tree: &'a [u8], width: usize) -> Check<'a>
         ensures tree { result.tree.now ≡ tree.now }
         ensures width { result.width ≡ width }
+        ensures at { result.at ≡ 0 }
     {
         Check {
             tree,
             width,
             at: 0,
-            prev: Key {
-                name: &tree[..0],
-                tree: false,
-            },
+            prev: 0,
             size: Size {
                 entries: 0,
                 name_bytes: 0,
@@ -134,30 +136,58 @@ impl<'a> Check<'a> {
         }
     }
 
-    // The same past one more entry, which ends at `next`.
-    fn past(self, key: Key<'a>, next: usize) -> Check<'a>
-        requires { Checking (size_of (compact_tree self.width self.tree.now)) (length self.tree.now) (held_at self.tree.now self.width next) next
-            (self.size.entries + 1) (self.size.name_bytes + length key.name.now) key.name.now key.tree }
+    // The key of the entry before, or of no name where there is none.
+    fn before(self) -> Key<'a>
+        ensures name { result.name.now ≡ name_before self.entry.tree.now self.entry.width self.entry.prev self.entry.at }
+        ensures tree { result.tree ≡ tree_before self.entry.tree.now self.entry.prev self.entry.at }
+    {
+        if self.at == 0 {
+            return Key {
+                name: &self.tree[..0],
+                tree: false,
+            };
+        }
+        key_held(self.tree, self.width, self.prev, self.at)
+    }
+
+    // The same past one more entry, which ends at `next` and has so many bytes of name.
+    fn past(self, next: usize, name_len: usize) -> Check<'a>
+        requires { Reached self.tree.now self.width next self.at (self.size.entries + 1) (self.size.name_bytes + name_len) }
         ensures tree { result.tree.now ≡ self.entry.tree.now }
         ensures width { result.width ≡ self.entry.width }
         ensures at { result.at ≡ next }
-        ensures prev { result.prev.name.now ≡ key.entry.name.now }
+        ensures prev { result.prev ≡ self.entry.at }
     {
         Check {
             tree: self.tree,
             width: self.width,
             at: next,
-            prev: key,
+            prev: self.at,
             size: Size {
                 entries: self.size.entries + 1,
-                name_bytes: self.size.name_bytes + key.name.len(),
+                name_bytes: self.size.name_bytes + name_len,
             },
         }
     }
 
-    // Goes on over the entries that surely fit: those whose names come after the one before by eight bytes. `first` is the head of the last name.
+    // Whether a name comes after the one before it, if there is one, by eight bytes.
+    fn is_behind(self, name: &[u8], last: u64, head: u64) -> bool
+        requires last { 0 < self.at → Head (name_before self.tree.now self.width self.prev self.at) last }
+        requires head { Head name.now head }
+        ensures { result ≡ true → 0 < self.entry.at → Lower (name_before self.entry.tree.now self.entry.width self.entry.prev self.entry.at) name.now }
+    {
+        if last < head {
+            return true;
+        }
+        if self.at == 0 {
+            return false;
+        }
+        ahead(self.before().name, name, last, head)
+    }
+
+    // Goes on over the entries that surely fit: a first one, and those whose names come after the one before by eight bytes. `first` is the head of the last name.
     fn run_on(self, first: u64) -> Check<'a>
-        requires { Head self.prev.name.now first }
+        requires { 0 < self.at → Head (name_before self.tree.now self.width self.prev self.at) first }
         ensures tree { result.tree.now ≡ self.entry.tree.now }
         ensures width { result.width ≡ self.entry.width }
         ensures on { self.entry.at ≤ result.at }
@@ -165,17 +195,30 @@ impl<'a> Check<'a> {
         let mut run = self;
         let mut last = first;
         while let Some(next) = end_of(run.tree, run.width, run.at) {
-            let key = key_held(run.tree, run.width, run.at, next);
-            let Some(head) = head(key.name) else {
+            let name = key_held(run.tree, run.width, run.at, next).name;
+            let Some(head) = head(name) else {
                 break;
             };
-            if !ahead(run.prev.name, key.name, last, head) || !names::eight::plain_name(key.name) {
+            if !run.is_behind(name, last, head) || !names::eight::plain_name(name) {
                 break;
             }
-            run = run.past(key, next);
+            run = run.past(next, name.len());
             last = head;
         }
         run
+    }
+
+    // The same, if the last name has eight bytes.
+    fn run_past(self, first: Option<u64>) -> Check<'a>
+        requires { 0 < self.at → IfSome first (λ x. Head (name_before self.tree.now self.width self.prev self.at) x) }
+        ensures tree { result.tree.now ≡ self.entry.tree.now }
+        ensures width { result.width ≡ self.entry.width }
+        ensures on { self.entry.at ≤ result.at }
+    {
+        match first {
+            Some(first) => self.run_on(first),
+            None => self,
+        }
     }
 }
 
@@ -184,21 +227,24 @@ pub fn judge(tree: &[u8], width: usize) -> Option<Size>
     ensures { checked_as result ≡ size_of (compact_tree width tree.now) }
 {
     let mut check = Check::start(tree, width);
+    let mut first = Some(0);
     // Stays: each turn goes on from where a run of entries stopped; entries differ in length.
     while check.at < check.tree.len() {
+        check = check.run_past(first);
+        if check.tree.len() <= check.at {
+            return Some(check.size);
+        }
         let next = end_of(check.tree, check.width, check.at)?;
         let key = key_held(check.tree, check.width, check.at, next);
         let entries = Packed {
             tree: check.tree,
             width: check.width,
         };
-        if !names::later::may_follow(&entries, next, check.prev, key) {
+        if !names::later::may_follow(&entries, next, check.before(), key) {
             return None;
         }
-        check = check.past(key, next);
-        if let Some(first) = head(key.name) {
-            check = check.run_on(first);
-        }
+        check = check.past(next, key.name.len());
+        first = head(key.name);
     }
     Some(check.size)
 }

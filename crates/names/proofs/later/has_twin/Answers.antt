@@ -21,4 +21,4 @@ pub returns-in-Greater : goal.returns-in-Greater
 returns-in-Greater g c = twin_greater c.loop-key.invariant (reads_begins c.in-Some.ensures) _ (c.name_order.ensures ∙ reads_key c.in-Some.ensures _) c.in-Greater.is
 
 pub returns : goal.returns
-returns g c = reads_over c.loop-key.invariant c.in_default.ensures
+returns g c = reads_over c.loop-key.invariant c.in_default.ensures c.len.ensures

@@ -8,8 +8,8 @@ use Rattle.names_compact.proofs.CompactLaws.{mark, mode_kind}
 use Rattle.names_compact.proofs.CompactRawLaws.{same_parts}
 use Rattle.names_compact.proofs.compact.Tree.entry_at.Goals as goal
 
-pub overflow_add-id : goal.overflow_add-id
-overflow_add-id c =
+pub overflow_add-name-2 : goal.overflow_add-name-2
+overflow_add-name-2 c =
     let m = mark _ _ c.args.i c.args.at c.args.self.run c.requires.0 c.requires.1 in
     omega (arith, m.room)
 
@@ -43,16 +43,10 @@ slice_bounds-result-end c =
     let m = mark _ _ c.args.i c.args.at c.args.self.run c.requires.0 c.requires.1 in
     omega (arith, m.room)
 
-pub slice_bounds-result-end-2 : goal.slice_bounds-result-end-2
-slice_bounds-result-end-2 c =
-    let m = mark _ _ c.args.i c.args.at c.args.self.run c.requires.0 c.requires.1 in
-    omega (arith, m.room)
-
 pub returns : goal.returns
 returns c =
     let m = mark _ _ c.args.i c.args.at c.args.self.run c.requires.0 c.requires.1 in
     let b = c.args.self.bytes.now in
     let start = c.args.at + 2 + c.args.self.width in
     let n : start + get_or b (c.args.at + 1) 0 - start ≡ get_or b (c.args.at + 1) 0 = omega arith in
-    let w : start - (c.args.at + 2) ≡ c.args.self.width = omega arith in
-    same_parts c.kind_of.result _ (c.kind_of.ensures ∙ ap mode_at m.kind ∙ mode_kind _) (ap (λ (k : ℕ). take k (drop start b)) n ∙ m.text) (ap (λ (k : ℕ). take k (drop (c.args.at + 2) b)) w ∙ m.id)
+    same_parts c.kind_of.result _ (c.kind_of.ensures ∙ ap mode_at m.kind ∙ mode_kind _) (ap (λ (k : ℕ). take k (drop start b)) n ∙ m.text) c.id_at.ensures
