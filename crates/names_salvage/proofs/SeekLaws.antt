@@ -1,5 +1,5 @@
--- Laws of the search: the slots of a tree's entries stand in the order of its keys, so what the search answers of the slots is told of the tree. Assumes nothing.
-use Prim.Native.Nat.{ℕ, zero, suc, ◌≤◌, ◌<◌, Ordering}
+-- Laws of the search: the keys of a tree rise, so with an entry that is lower than the key all before it are, and with one that is higher all behind it. Assumes nothing.
+use Prim.Native.Nat.{ℕ, zero, suc, ◌+◌, ◌≤◌, ◌<◌, Ordering}
 use mathlib.Core.Path.{◌≡◌, refl, sym, ap, ◌∙◌, subst}
 use mathlib.Core.Bool.{Bool, true, false}
 use mathlib.Core.List.{List, [], ◌∷◌}
@@ -7,16 +7,9 @@ use native.Mathlib.Omega.{arith}
 use lib.Dec.{eqb}
 use borrow.Author.Tests.{eqb-true, eqb-false}
 use lib.ListN.{length, get_or}
-use Rattle.std.specs.Prelude.{Result, Ok, Err}
-use Rattle.std.proofs.lemmas.List.{get_or_default}
-use Rattle.std.proofs.lemmas.Fn.{always_returns_same}
-use Rattle.std.specs.Fn.{Called, ComputesKey}
-use denote.Ref.{Bor}
-use denote.Param.Members.{Mut}
-use Rattle.std.specs.Ordering.{ordering_index}
+use Rattle.std.specs.Prelude.{Ok, Err}
 use Rattle.std.specs.declared.cmp.Ordering as std
 use Rattle.std.specs.declared.cmp.Ordering.TheVariants.{Less, Equal, Greater}
-use Rattle.std.specs.List.Sorted.{IsBinarySearchResult, IsSearchInRange, IsNonDecreasingBy}
 use Rattle.model.specs.Bytes.{Bytes, cmp}
 use Rattle.model.specs.Map.{find, rising, rising_from, is_some}
 use Rattle.model.specs.Tree.{Tree, as_kind, key, good_name}
@@ -63,66 +56,43 @@ gap k (x ∷ t) (suc i) h low high =
     let g = gap k t i (omega arith) (λ j z. low (suc j) (omega arith)) (λ j z y. high (suc j) (omega arith) (omega arith)) in
     (rw f g.0, λ e q. rw (q, f) (ap (λ (l : Tree). x ∷ l) (g.1 e q)), omega (arith, g.2))
 
--- the answers of an order
-is_less : (o : std.Ordering) → o ≡ Less → {z : Ordering} → as_ordering o ≡ z → z ≡ Ordering.lt
-is_less o e q = sym q ∙ ap as_ordering e
+-- a search of which the entries from lo up to hi are left
+pub record Seeking (t : Tree) (k : Bytes) (lo hi : ℕ) : Type 0 where
+  pub low : (j : ℕ) → j < lo → cmp (key (get_or t j blank)) k ≡ Ordering.lt
+  pub high : (j : ℕ) → hi ≤ j → j < length t → cmp (key (get_or t j blank)) k ≡ Ordering.gt
 
-is_equal : (o : std.Ordering) → o ≡ Equal → {z : Ordering} → as_ordering o ≡ z → z ≡ Ordering.eq
-is_equal o e q = sym q ∙ ap as_ordering e
+pub seek_all : (t : Tree) (k : Bytes) (n : ℕ) → length t ≤ n → Seeking t k 0 n
+seek_all t k n h = record { low = λ j f. absurd (omega arith); high = λ j f g. absurd (omega arith) }
 
-is_greater : (o : std.Ordering) → o ≡ Greater → {z : Ordering} → as_ordering o ≡ z → z ≡ Ordering.gt
-is_greater o e q = sym q ∙ ap as_ordering e
+pub seek_none : {t : Tree} {k : Bytes} {lo hi : ℕ} → Seeking t k lo hi → lo ≤ length t → hi ≤ lo → SearchIs t k (Err lo)
+seek_none {t} {k} {lo} {hi} s h g = record { is = gap k t lo h s.low (λ j f e. s.high j (omega arith) e) }
 
--- of two keys the lower is less where the higher is not greater
-steps : (a b k : Bytes) → cmp a b ≡ Ordering.lt → (o p : std.Ordering) → as_ordering o ≡ cmp a k → as_ordering p ≡ cmp b k → ordering_index o ≤ ordering_index p
-steps a b k l o Greater e f = top o
-  where
-    top : (o : std.Ordering) → ordering_index o ≤ 2
-    top Less = omega arith
-    top Equal = omega arith
-    top Greater = omega arith
-steps a b k l o Equal e f = bottom o (e ∙ ap (cmp a) (sym (cmp_eq b k (sym f))) ∙ l)
-  where
-    bottom : (o : std.Ordering) → as_ordering o ≡ Ordering.lt → ordering_index o ≤ 1
-    bottom Less q = omega arith
-    bottom Equal q = omega arith
-    bottom Greater q = absurd (let w : ◌≡◌ {A = ℕ} 0 1 = cc in omega arith)
-steps a b k l o Less e f = bottom o (e ∙ cmp_trans a b k l (sym f))
-  where
-    bottom : (o : std.Ordering) → as_ordering o ≡ Ordering.lt → ordering_index o ≤ 0
-    bottom Less q = omega arith
-    bottom Equal q = absurd (let w : ◌≡◌ {A = ℕ} 0 1 = cc in omega arith)
-    bottom Greater q = absurd (let w : ◌≡◌ {A = ℕ} 0 1 = cc in omega arith)
+-- a slot at the middle says by its order where the search goes on
+module _ {raw : Bytes} {vs : List Slot} {t : Tree} (l : Lists raw vs t) (up : rising key t ≡ true) (n : Bytes) (a : Bool) (g : good_name n ≡ true) (m : ℕ) (h : m < length vs) where
+  there : m < length t
+  there = omega (arith, l.many)
 
-module _ (raw n : Bytes) (a : Bool) (g : good_name n ≡ true) (vs : List Slot) (t : Tree) (l : Lists raw vs t) (up : rising key t ≡ true) where
-  abbrev ord : Slot → std.Ordering
-  ord s = slot_order raw n a s.word
+  says : (o : std.Ordering) → o ≡ slot_order raw n a (get_or vs m empty).word → cmp (key (get_or t m blank)) (as_kind a n) ≡ as_ordering o
+  says o e = sym (ap as_ordering e ∙ slot_says (l.each m there) n g a)
 
-  says : (i : ℕ) → i < length vs → as_ordering (ord (get_or vs i empty)) ≡ cmp (key (get_or t i blank)) (as_kind a n)
-  says i h = slot_says (l.each i (omega (arith, l.many))) n g a
+  pub seek_hit : Equal ≡ slot_order raw n a (get_or vs m empty).word → SearchIs t (as_kind a n) (Ok m)
+  seek_hit e = record { is = found (as_kind a n) t up m there (says Equal e) }
 
-  goes_up : IsNonDecreasingBy (λ (s : Slot). ordering_index (ord s)) vs
-  goes_up i j d h k =
-      rw (get_or_default vs i d empty (omega arith), get_or_default vs j d empty k) (go (eqb i j) refl)
-    where
-      go : (b : Bool) → eqb i j ≡ b → ordering_index (ord (get_or vs i empty)) ≤ ordering_index (ord (get_or vs j empty))
-      go true e = let q : i ≡ j = eqb-true i j e in rw q (omega arith)
-      go false e =
-          let q = eqb-false i j e in
-          steps _ _ (as_kind a n) (rises t up i j (omega (arith, q)) (omega (arith, l.many))) _ _ (says i (omega arith)) (says j k)
+  module _ {lo hi : ℕ} (s : Seeking t (as_kind a n) lo hi) where
+    pub seek_up : Less ≡ slot_order raw n a (get_or vs m empty).word → Seeking t (as_kind a n) (m + 1) hi
+    seek_up e = record { low = λ j f. go j f (eqb j m) refl; high = s.high }
+      where
+        go : (j : ℕ) → j < m + 1 → (b : Bool) → eqb j m ≡ b → cmp (key (get_or t j blank)) (as_kind a n) ≡ Ordering.lt
+        go j f true q = rw (eqb-true j m q) (says Less e)
+        go j f false q =
+            let ne = eqb-false j m q in
+            cmp_trans _ (key (get_or t m blank)) (as_kind a n) (rises t up j m (omega (arith, ne)) there) (says Less e)
 
-  seek_says : (r : Result ℕ ℕ) → IsSearchInRange r (length vs) → IsBinarySearchResult ord vs r → SearchIs t (as_kind a n) r
-  seek_says (Ok i) b s = record { is = found (as_kind a n) t up i (omega (arith, l.many)) (is_equal _ (s empty) (says i b)) }
-  seek_says (Err i) b s =
-      record {
-        is = gap (as_kind a n) t i (omega (arith, l.many)) (λ j h. is_less _ ((s goes_up).0 j empty (omega arith) h) (says j (omega arith)))
-            (λ j h k. is_greater _ ((s goes_up).1 j empty h (omega (arith, l.many))) (says j (omega (arith, l.many))));
-      }
-
-  -- the same of a search by a closure whose calls answer so
-  pub seek_by : {F : Type 0} {f : F} {g : Mut F (Bor Slot × Unit {0}) std.Ordering} (ws : List Slot) → ws ≡ vs → (r : Result ℕ ℕ) → IsSearchInRange r (length ws) →
-      ((o : Slot → std.Ordering) → ComputesKey g o f → IsBinarySearchResult o ws r) → ((b : Bor Slot × Unit {0}) (q : std.Ordering) (f' : F) → Called g f b q f' → (q ≡ ord b.0.now) × (f' ≡ f)) →
-      SearchIs t (as_kind a n) r
-  seek_by {F} {f} {g} ws e r b s c =
-      seek_says r (subst (λ (z : List Slot). IsSearchInRange r (length z)) e b)
-      (subst (λ (z : List Slot). IsBinarySearchResult ord z r) e (s ord (always_returns_same g (λ x q. q ≡ ord x.0.now) f c)))
+    pub seek_down : Greater ≡ slot_order raw n a (get_or vs m empty).word → Seeking t (as_kind a n) lo m
+    seek_down e = record { low = s.low; high = λ j f d. go j f d (eqb j m) refl }
+      where
+        go : (j : ℕ) → m ≤ j → j < length t → (b : Bool) → eqb j m ≡ b → cmp (key (get_or t j blank)) (as_kind a n) ≡ Ordering.gt
+        go j f d true q = rw (eqb-true j m q) (says Greater e)
+        go j f d false q =
+            let ne = eqb-false j m q in
+            cmp_lt (as_kind a n) (key (get_or t j blank)) (cmp_trans (as_kind a n) (key (get_or t m blank)) _ (cmp_gt _ (as_kind a n) (says Greater e)) (rises t up m j (omega (arith, ne)) d))

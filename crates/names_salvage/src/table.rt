@@ -74,8 +74,71 @@ fn order_byte(name: &[u8], tree: bool, i: usize) -> u8
     }
 }
 
+// Whether the entry at the place i, if there is one, has a name that begins with this one.
+fn begins_at(kept: &[Slot], raw: &[u8], i: usize, name: &[u8]) -> bool
+    requires { good_name name.now ≡ true }
+    ensures { (t : Tree) → Lists raw.now kept.now t → result ≡ begun name.now (drop i t) }
+{
+    match kept.get(i) {
+        Some(slot) => names::order::shared(name, after(raw, slot.name_at())) == name.len(),
+        None => false,
+    }
+}
+
+// Searches a name among the slots by halving. By itself, so that what it works with stays in registers.
+#[inline(never)]
+fn search(kept: &[Slot], raw: &[u8], sought: Key<'_>) -> Result<usize, usize>
+    requires { good_name sought.name.now ≡ true }
+    ensures { (t : Tree) → Lists raw.now kept.now t → rising key t ≡ true → SearchIs t (as_kind sought.entry.tree sought.entry.name.now) result }
+{
+    let mut lo = 0;
+    let mut hi = kept.len();
+    // Stays: the library's search does not end where it meets the name: with it copies of a name take twice the time.
+    while lo < hi {
+        let middle = lo + (hi - lo) / 2;
+        match kept[middle].order(raw, sought) {
+            Ordering::Less => lo = middle + 1,
+            Ordering::Equal => return Ok(middle),
+            Ordering::Greater => hi = middle,
+        }
+    }
+    Err(lo)
+}
+
+// Whether a name is among these slots, and where an entry of it would stand. Between a file's place and the tree of its name stand only names that begin with it.
+pub fn place_in(kept: &[Slot], raw: &[u8], sought: Key<'_>) -> Result<usize, usize>
+    requires { good_name sought.name.now ≡ true }
+    ensures { (t : Tree) → Lists raw.now kept.now t → rising key t ≡ true → PlaceIs t sought.entry.name.now sought.entry.tree result }
+{
+    let file = search(
+        kept,
+        raw,
+        Key {
+            tree: false,
+            ..sought
+        },
+    );
+    let Err(i) = file else {
+        return file;
+    };
+    if !begins_at(kept, raw, i, sought.name) {
+        return file;
+    }
+    match search(
+        kept,
+        raw,
+        Key {
+            tree: true,
+            ..sought
+        },
+    ) {
+        Err(_) if !sought.tree => file,
+        twin => twin,
+    }
+}
+
 // Puts a slot in before the place i of the first n, of which those behind move up.
-fn put_before(slots: &mut [Slot], n: usize, i: usize, slot: Slot)
+pub fn put_before(slots: &mut [Slot], n: usize, i: usize, slot: Slot)
     requires { (i ≤ n) × (n < length slots.old) }
     ensures { take (n + 1) slots.new ≡ take i (take n slots.old) ++ (slot ∷ drop i (take n slots.old)) }
 {
@@ -128,53 +191,12 @@ impl Table {
         &self.slots[..self.len]
     }
 
-    // Whether the entry at the place i, if there is one, has a name that begins with this one.
-    fn begins_at(&self, raw: &[u8], i: usize, name: &[u8]) -> bool
-        requires { good_name name.now ≡ true }
-        ensures { (t : Tree) → Lists raw.now self.now t → result ≡ begun name.now (drop i t) }
-    {
-        match self.kept().get(i) {
-            Some(slot) => names::order::shared(name, after(raw, slot.name_at())) == name.len(),
-            None => false,
-        }
-    }
-
-    // Searches a name by halving.
-    fn search(&self, raw: &[u8], sought: Key<'_>) -> Result<usize, usize>
-        requires { good_name sought.name.now ≡ true }
-        ensures { (t : Tree) → Lists raw.now self.now t → rising key t ≡ true → SearchIs t (as_kind sought.entry.tree sought.entry.name.now) result }
-    {
-        self.kept().binary_search_by(|slot| slot.order(raw, sought))
-    }
-
-    // Whether a name is kept already, and where an entry of it would stand. Between a file's place and the tree of its name stand only names that begin with it.
+    // Whether a name is kept already, and where an entry of it would stand.
     pub fn place_for(&self, raw: &[u8], sought: Key<'_>) -> Result<usize, usize>
         requires { good_name sought.name.now ≡ true }
         ensures { (t : Tree) → Lists raw.now self.now t → rising key t ≡ true → PlaceIs t sought.entry.name.now sought.entry.tree result }
     {
-        let file = self.search(
-            raw,
-            Key {
-                tree: false,
-                ..sought
-            },
-        );
-        let Err(i) = file else {
-            return file;
-        };
-        if !self.begins_at(raw, i, sought.name) {
-            return file;
-        }
-        match self.search(
-            raw,
-            Key {
-                tree: true,
-                ..sought
-            },
-        ) {
-            Err(_) if !sought.tree => file,
-            twin => twin,
-        }
+        place_in(self.kept(), raw, sought)
     }
 
     // Puts a slot in before the place i.
