@@ -144,8 +144,11 @@ impl Hash for Words {
     fn compress(self, block: &[u8; 64]) -> Words {
         let w = schedule(block);
         let mut s = self;
-        for t in 0..64 {
-            s = turn(s, TURN[t], w[t]);
+        // After four turns all eight words are new, so the compiler writes a row out, with no word to move.
+        for row in 0..16 {
+            for t in 4 * row..4 * row + 4 {
+                s = turn(s, TURN[t], w[t]);
+            }
         }
         sums(s, self)
     }
