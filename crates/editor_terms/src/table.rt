@@ -72,7 +72,7 @@ impl<'a> Objects<'a> {
         let mut from = 0;
         for (key, &end) in self.ids.chunks_exact(WIDTH).zip(self.ends) {
             let end = end as usize;
-            if key == id.bytes.as_slice() {
+            if names::order::same_bytes(key, &id.bytes) {
                 return Some(&self.raws[from..end]);
             }
             from = end;
