@@ -6,7 +6,7 @@ ghost use Rattle.store_slots.specs.View.{Holds};
 ghost use Rattle.store_check.specs.Decides.{Decides};
 ghost use Rattle.store_check.specs.Stored.{Stored};
 
-use crate::lent::Lent;
+use crate::lent::{Lent, Shelf};
 use names::limits::{PATH_BYTES, SLOTS, TREE_BYTES, WIDTH};
 use store_slots::View;
 
@@ -14,8 +14,16 @@ use store_slots::View;
 fn exact(s: Lent<'_>) -> bool
     ensures { (F : Format) → F.width ≡ s.entry.width → Decides (Holds F s.entry.record s.entry.plens.now s.entry.paths.now s.entry.tlens.now s.entry.trees.now s.entry.order.now) result }
 {
-    match s.laid() {
-        Some(laid) => laid.write_ok(),
+    let shelf = Shelf {
+        record: s.record,
+        plens: s.plens,
+        paths: s.paths,
+        tlens: s.tlens,
+        trees: s.trees,
+        width: s.width,
+    };
+    match shelf.laid() {
+        Some(laid) => laid.write_ok(s.order),
         None => false,
     }
 }

@@ -7,7 +7,7 @@ ghost use Rattle.store_check.specs.Decides.{Decides};
 ghost use Rattle.store_check.specs.Laid.{Blank, good_path, New, First, FirstOf, Paths, Trees};
 ghost use Rattle.store_check.specs.Lending.{LaidOut};
 
-use crate::lent::Lent;
+use crate::lent::Shelf;
 use crate::runs::Runs;
 use crate::tag::tag;
 use names::limits::{ENTRIES, NAME_BYTES, SLOTS};
@@ -118,11 +118,11 @@ impl<'a> Runs<'a> {
 // A store whose trees are laid out as they have to be: well formed and within the limits, and their paths different and valid.
 #[derive(Clone, Copy)]
 pub struct Laid<'a> {
-    pub store: Lent<'a>,
+    pub store: Shelf<'a>,
     ghost laid: { LaidOut store },
 }
 
-impl<'a> Lent<'a> {
+impl<'a> Shelf<'a> {
     // Whether the slot k has the lengths that it may have: none where it is free.
     fn blank(self, k: usize) -> bool
         requires { k < 64 }

@@ -15,7 +15,7 @@ ghost use Rattle.store_check.specs.Once.{taking_once};
 ghost use Rattle.store_check.specs.Written.{Marks, start_fine};
 
 use crate::laid::Laid;
-use crate::lent::Lent;
+use crate::lent::Shelf;
 use crate::parents::{Known, Parent, Paths, Stack};
 use crate::runs::Runs;
 use names::limits::SLOTS;
@@ -93,9 +93,10 @@ fn has_tree(tree: Tree<'_>, name: &[u8]) -> bool
 // A store that is laid out as it has to be, with an open write whose trees are in slots of their own.
 #[derive(Clone, Copy)]
 struct Write<'a> {
-    store: Lent<'a>,
+    store: Shelf<'a>,
+    order: &'a [u64],
     ghost open: { 1 ≤ store.record.«open» },
-    ghost taken: { TakenOut store } by { taking_once store.width store.record store.plens.now store.paths.now store.tlens.now store.trees.now store.order.now },
+    ghost taken: { TakenOut store order.now } by { taking_once store.width store.record store.plens.now store.paths.now store.tlens.now store.trees.now order.now },
 }
 
 impl<'a> Write<'a> {
@@ -132,7 +133,7 @@ impl<'a> Write<'a> {
     // Whether the tree in a slot lies one component below one of the first n that were set aside, which has a tree entry for it.
     fn has_parent(self, n: usize, slot: usize) -> bool
         requires { (n ≤ self.store.record.aside) × (slot < 64) }
-        ensures { result ≡ has_parent (path_in self.entry.store slot) (first_aside self.entry.store n) }
+        ensures { result ≡ has_parent (path_in self.entry.store slot) (first_aside self.entry.store self.entry.order.now n) }
     {
         let s = self.store;
         let path = self.path(slot);
@@ -146,16 +147,16 @@ impl<'a> Write<'a> {
         ) else {
             return false;
         };
-        is_among(s.order, n, k) && has_tree(self.tree(k), names::path::filename(path))
+        is_among(self.order, n, k) && has_tree(self.tree(k), names::path::filename(path))
     }
 
     // Whether each tree set aside but the first lies below one that was set aside before it.
     fn aside_ok(self) -> bool
         requires { 1 ≤ self.store.record.aside }
-        ensures { result ≡ aside_good (path_in self.entry.store (get_or self.entry.store.order.now 0 0)) (aside_in self.entry.store) }
+        ensures { result ≡ aside_good (path_in self.entry.store (get_or self.entry.order.now 0 0)) (aside_in self.entry.store self.entry.order.now) }
     {
         for i in (1..self.store.record.aside).rev() {
-            if !self.has_parent(i, self.store.order[i] as usize) {
+            if !self.has_parent(i, self.order[i] as usize) {
                 return false;
             }
         }
@@ -165,7 +166,7 @@ impl<'a> Write<'a> {
     // How far down the stacked trees lie below those that were set aside, in the order of these and of their entries, and whether the requested tree comes after them.
     fn walked(self, begins: &[u64]) -> Known
         requires { Begins self.store.plens.now 64 begins.now }
-        ensures { HangingIn self.entry.store result }
+        ensures { HangingIn self.entry.store self.entry.order.now result }
     {
         let s = self.store;
         let paths = Paths {
@@ -175,7 +176,7 @@ impl<'a> Write<'a> {
         };
         let stack = Stack {
             paths,
-            slots: s.order,
+            slots: self.order,
             low: SLOTS - s.record.stacked,
         };
         let asked = paths.at(s.record.asked);
@@ -183,7 +184,7 @@ impl<'a> Write<'a> {
             low: SLOTS,
             asked: false,
         };
-        for slot in &s.order[..s.record.aside] {
+        for slot in &self.order[..s.record.aside] {
             if known.low <= stack.low {
                 return known;
             }
@@ -199,7 +200,7 @@ impl<'a> Write<'a> {
 
     // The same, where trees are stacked.
     fn hanging(self) -> Known
-        ensures { HangingIn self.entry.store result }
+        ensures { HangingIn self.entry.store self.entry.order.now result }
     {
         if self.store.record.stacked == 0 {
             return Known {
@@ -213,19 +214,19 @@ impl<'a> Write<'a> {
 
     // Whether the requested tree lies below one that was set aside, where that is not known.
     fn asked_ok(self, known: bool) -> bool
-        requires { known ≡ true → has_parent (path_in self.store self.store.record.asked) (aside_in self.store) ≡ true }
-        ensures { result ≡ has_parent (path_in self.entry.store self.entry.store.record.asked) (aside_in self.entry.store) }
+        requires { known ≡ true → has_parent (path_in self.store self.store.record.asked) (aside_in self.store self.order.now) ≡ true }
+        ensures { result ≡ has_parent (path_in self.entry.store self.entry.store.record.asked) (aside_in self.entry.store self.entry.order.now) }
     {
         known || self.has_parent(self.store.record.aside, self.store.record.asked)
     }
 
     // Whether each stacked tree lies below one that was set aside, where those from `low` on do.
     fn stacked_ok(self, low: usize) -> bool
-        requires { ParentedIn self.store low }
-        ensures { result ≡ have_parents (stacked_in self.entry.store) (aside_in self.entry.store) }
+        requires { ParentedIn self.store self.order.now low }
+        ensures { result ≡ have_parents (stacked_in self.entry.store self.entry.order.now) (aside_in self.entry.store self.entry.order.now) }
     {
         for i in (SLOTS - self.store.record.stacked..low).rev() {
-            if !self.has_parent(self.store.record.aside, self.store.order[i] as usize) {
+            if !self.has_parent(self.store.record.aside, self.order[i] as usize) {
                 return false;
             }
         }
@@ -234,7 +235,7 @@ impl<'a> Write<'a> {
 
     // Whether the requested tree and each stacked tree lie below one that was set aside.
     fn below_ok(self) -> bool
-        ensures { result ≡ (has_parent (path_in self.entry.store self.entry.store.record.asked) (aside_in self.entry.store) && have_parents (stacked_in self.entry.store) (aside_in self.entry.store)) }
+        ensures { result ≡ (has_parent (path_in self.entry.store self.entry.store.record.asked) (aside_in self.entry.store self.entry.order.now) && have_parents (stacked_in self.entry.store self.entry.order.now) (aside_in self.entry.store self.entry.order.now)) }
     {
         let known = self.hanging();
         self.asked_ok(known.asked) && self.stacked_ok(known.low)
@@ -242,7 +243,7 @@ impl<'a> Write<'a> {
 
     // Whether the trees that are taken hang together below the start.
     fn chain_ok(self) -> bool
-        ensures { result ≡ taken_good (start_in self.entry.store) (held_in self.entry.store self.entry.store.record.asked) (stacked_in self.entry.store) (aside_in self.entry.store) }
+        ensures { result ≡ taken_good (start_in self.entry.store self.entry.order.now) (held_in self.entry.store self.entry.store.record.asked) (stacked_in self.entry.store self.entry.order.now) (aside_in self.entry.store self.entry.order.now) }
     {
         if self.store.record.aside == 0 {
             return self.store.record.stacked == 0;
@@ -252,10 +253,10 @@ impl<'a> Write<'a> {
 
     // Whether the write started at a root where it says so, and a root is cached or is the start.
     fn start_ok(self) -> bool
-        ensures { result ≡ start_fine self.entry.store.record.«open» (start_in self.entry.store) (cached_in self.entry.store) }
+        ensures { result ≡ start_fine self.entry.store.record.«open» (start_in self.entry.store self.entry.order.now) (cached_in self.entry.store) }
     {
         let s = self.store;
-        s.plens[store_slots::start(s.record, s.order)] == 0
+        s.plens[store_slots::start(s.record, self.order)] == 0
             || (s.record.open != 1 && (Laid { store: s }).root_cached())
     }
 }
@@ -277,17 +278,18 @@ impl<'a> Laid<'a> {
     }
 
     // Whether the open write, if one is open, is one that can be.
-    pub fn write_ok(self) -> bool
-        ensures { Decides (WrittenOut self.entry.store) result }
+    pub fn write_ok(self, order: &[u64]) -> bool
+        requires { (length order.now ≡ 64) × (self.store.width ≤ 64) }
+        ensures { Decides (WrittenOut self.entry.store order.now) result }
     {
         let store = self.store;
         if store.record.open == 0 {
             return closed_ok(store.record) && self.root_cached();
         }
-        if !taken_ok(store.record, store.order) {
+        if !taken_ok(store.record, order) {
             return false;
         }
-        let write = Write { store };
+        let write = Write { store, order };
         write.start_ok() && write.chain_ok()
     }
 }

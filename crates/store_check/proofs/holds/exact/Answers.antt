@@ -14,4 +14,4 @@ pub returns-in-Some : goal.returns-in-Some
 returns-in-Some c F e =
     let s = c.args.s in
     let q = c.in-Some.ensures in
-    then_written F s.record s.plens.now s.paths.now s.tlens.now s.trees.now s.order.now s.width e (subst LaidOut q c.in-Some.laid.laid) (subst (λ x. Decides (WrittenOut x) c.write_ok.result) q c.write_ok.ensures)
+    then_written F s.record s.plens.now s.paths.now s.tlens.now s.trees.now s.order.now s.width e (subst LaidOut q c.in-Some.laid.laid) (subst (λ x. Decides (WrittenOut x s.order.now) c.write_ok.result) q c.write_ok.ensures)

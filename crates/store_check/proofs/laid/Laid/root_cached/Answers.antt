@@ -1,11 +1,9 @@
 -- `store_check::laid::Laid::root_cached` meets its contract: the search for the empty path says it. Assumes nothing.
-use mathlib.Core.Path.{◌∙◌, subst}
+use mathlib.Core.Path.{◌∙◌}
 use mathlib.Core.List.{[]}
-use Rattle.model.specs.Bytes.{Bytes}
 use Rattle.store_runs.specs.Digits.{digits}
 use Rattle.store_runs.specs.Runs.{cut}
 use Rattle.store_runs.proofs.RunLaws.{length_cut}
-use Rattle.store_slots.specs.View.{SlotIs}
 use Rattle.store_check.proofs.StartLaws.{any_found}
 use Rattle.store_check.proofs.laid.Laid.root_cached.Goals as goal
 

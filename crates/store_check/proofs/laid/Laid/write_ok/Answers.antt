@@ -6,16 +6,16 @@ use Rattle.store_check.proofs.laid.Laid.write_ok.Goals as goal
 pub returns-then-closed_ok : goal.returns-then-closed_ok
 returns-then-closed_ok c =
     let s = c.args.self.store in
-    idle_decides s.width s.record s.plens.now s.paths.now s.tlens.now s.trees.now s.order.now c.if-store-eq0.true s.order_64 (c.closed_ok.ensures.yes c.if-closed_ok.true) c.root_cached.result c.root_cached.ensures
+    idle_decides s.width s.record s.plens.now s.paths.now s.tlens.now s.trees.now c.args.order.now c.if-store-eq0.true c.requires.0 (c.closed_ok.ensures.yes c.if-closed_ok.true) c.root_cached.result c.root_cached.ensures
 
 pub returns-then-start_ok : goal.returns-then-start_ok
 returns-then-start_ok c =
     let s = c.args.self.store in
-    chain_decides s.width s.record s.plens.now s.paths.now s.tlens.now s.trees.now s.order.now c.if-store-eq0.false s.order_64 c.start_ok.result c.start_ok.ensures c.if-start_ok.true
+    chain_decides s.width s.record s.plens.now s.paths.now s.tlens.now s.trees.now c.args.order.now c.if-store-eq0.false c.requires.0 c.start_ok.result c.start_ok.ensures c.if-start_ok.true
     (c.taken_ok.ensures.yes c.if-not-taken_ok.false) c.chain_ok.result c.chain_ok.ensures
 
 pub returns-else-start_ok : goal.returns-else-start_ok
 returns-else-start_ok c =
     let s = c.args.self.store in
     rw c.if-start_ok.false
-    (refuses (start_bad s.width s.record s.plens.now s.paths.now s.tlens.now s.trees.now s.order.now c.if-store-eq0.false s.order_64 c.start_ok.result c.start_ok.ensures c.if-start_ok.false))
+    (refuses (start_bad s.width s.record s.plens.now s.paths.now s.tlens.now s.trees.now c.args.order.now c.if-store-eq0.false c.requires.0 c.start_ok.result c.start_ok.ensures c.if-start_ok.false))

@@ -4,4 +4,4 @@ use Rattle.store_check.proofs.open_write.Write.aside_ok.Given as goal
 abbrev pub invariant-loop-i : goal.invariant-loop-i
 invariant-loop-i l =
     let s = l.self.store in
-    Linking s.width s.plens.now s.paths.now s.tlens.now s.trees.now s.order.now s.record.aside l.i
+    Linking s.width s.plens.now s.paths.now s.tlens.now s.trees.now l.self.order.now s.record.aside l.i

@@ -17,7 +17,7 @@ returns-in_default c =
     let s = c.args.self.store in
     let T = c.args.self.taken in
     sym (below_none s.width s.record s.plens.now s.paths.now s.tlens.now s.trees.now T.lays (path_of s.plens.now s.paths.now c.args.slot) c.parent-parent.result.now
-    (c.parent-parent.ensures ∙ ap dir c.path-path.ensures) c.find.result c.find.ensures c.in_default.is (take c.args.n s.order.now) (aside_used T.opened c.args.n c.requires.0))
+    (c.parent-parent.ensures ∙ ap dir c.path-path.ensures) c.find.result c.find.ensures c.in_default.is (take c.args.n c.args.self.order.now) (aside_used T.opened c.args.n c.requires.0))
 
 pub tree-requires : goal.tree-requires
 tree-requires c =
@@ -35,7 +35,7 @@ returns-then-is_among c =
     let s = c.args.self.store in
     let T = c.args.self.taken in
     let b = below_slot s.width s.record s.plens.now s.paths.now s.tlens.now s.trees.now T.lays (path_of s.plens.now s.paths.now c.args.slot) c.parent-parent.result.now
-    (c.parent-parent.ensures ∙ ap dir c.path-path.ensures) c.find.result c.find.ensures c.in-Some.k c.in-Some.is (take c.args.n s.order.now) (aside_used T.opened c.args.n c.requires.0) in
+    (c.parent-parent.ensures ∙ ap dir c.path-path.ensures) c.find.result c.find.ensures c.in-Some.k c.in-Some.is (take c.args.n c.args.self.order.now) (aside_used T.opened c.args.n c.requires.0) in
     c.has_tree.ensures ∙ ap₂ (λ (x : Bytes) (y : Tree). is_tree_entry (entry_of x y)) (c.filename.ensures ∙ ap base c.path-path.ensures) (ap₂ unpack c.tree.ensures.0 c.tree.ensures.1)
     ∙ sym (b ∙ ap (λ (x : Bool). x && is_tree_entry (entry_of (base (path_of s.plens.now s.paths.now c.args.slot)) (tree_of s.width s.tlens.now s.trees.now c.in-Some.k))) (sym c.is_among.ensures ∙ c.if-is_among.true))
 
@@ -44,6 +44,6 @@ returns-else-is_among c =
     let s = c.args.self.store in
     let T = c.args.self.taken in
     let b = below_slot s.width s.record s.plens.now s.paths.now s.tlens.now s.trees.now T.lays (path_of s.plens.now s.paths.now c.args.slot) c.parent-parent.result.now
-    (c.parent-parent.ensures ∙ ap dir c.path-path.ensures) c.find.result c.find.ensures c.in-Some.k c.in-Some.is (take c.args.n s.order.now) (aside_used T.opened c.args.n c.requires.0) in
+    (c.parent-parent.ensures ∙ ap dir c.path-path.ensures) c.find.result c.find.ensures c.in-Some.k c.in-Some.is (take c.args.n c.args.self.order.now) (aside_used T.opened c.args.n c.requires.0) in
     c.if-is_among.false
     ∙ sym (b ∙ ap (λ (x : Bool). x && is_tree_entry (entry_of (base (path_of s.plens.now s.paths.now c.args.slot)) (tree_of s.width s.tlens.now s.trees.now c.in-Some.k))) (sym c.is_among.ensures ∙ c.if-is_among.false))

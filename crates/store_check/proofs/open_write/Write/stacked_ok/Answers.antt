@@ -22,7 +22,7 @@ returns-then-not-has_parent c =
     let s = c.args.self.store in
     let t = c.loop-i-test.true in
     sym
-    (stack_bad s.width s.plens.now s.paths.now s.tlens.now s.trees.now s.order.now (aside_in s) (64 - s.record.stacked) (c.loop-i.i - 1) s.order_64
+    (stack_bad s.width s.plens.now s.paths.now s.tlens.now s.trees.now c.args.self.order.now (aside_in s c.args.self.order.now) (64 - s.record.stacked) (c.loop-i.i - 1) c.args.self.taken.order_64
     (omega (arith, t)) (omega (arith, t, c.loop-i.invariant.high)) (sym c.has_parent.ensures ∙ c.if-not-has_parent.true))
 
 pub loop-i-preserved : goal.loop-i-preserved
@@ -32,5 +32,5 @@ pub returns : goal.returns
 returns c =
     let s = c.args.self.store in
     sym
-    (stack_all s.width s.plens.now s.paths.now s.tlens.now s.trees.now s.order.now (aside_in s) (64 - s.record.stacked) s.order_64
+    (stack_all s.width s.plens.now s.paths.now s.tlens.now s.trees.now c.args.self.order.now (aside_in s c.args.self.order.now) (64 - s.record.stacked) c.args.self.taken.order_64
     (λ j g h. c.loop-i.invariant.each j (omega (arith, g, c.loop-i-test.false)) h))

@@ -23,8 +23,8 @@ loop-slot-preserved c =
     let s = c.args.self.store in
     let T = c.args.self.taken in
     let n = c.loop-slot.slot-index in
-    let l : n < s.record.aside = omega (arith, c.loop-slot-test.true, length-take-le s.record.aside s.order.now (omega (arith, s.order_64, T.opened.room))) in
-    let g = get_or-take s.record.aside s.order.now n 0 l in
+    let l : n < s.record.aside = omega (arith, c.loop-slot-test.true, length-take-le s.record.aside c.args.self.order.now (omega (arith, c.args.self.taken.order_64, T.opened.room))) in
+    let g = get_or-take s.record.aside c.args.self.order.now n 0 l in
     let k = c.known_children-known.ensures in
     hanging_more T c.loop-slot.invariant.stacked n l c.at.result.now c.tree.result.bytes.now c.tree.result.width (c.at.ensures ∙ ap (path_of s.plens.now s.paths.now) g) c.tree.ensures.0
     (c.tree.ensures.1 ∙ ap (λ (x : ℕ). get_or (cut s.tlens.now s.trees.now) x []) g) c.known_children-known.result c.at-asked.result.now c.at-asked.ensures k.0 k.1

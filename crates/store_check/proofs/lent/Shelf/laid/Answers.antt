@@ -1,4 +1,4 @@
--- `store_check::lent::Lent::laid` meets its contract: the parts that it tests are together what it decides. Assumes nothing.
+-- `store_check::lent::Shelf::laid` meets its contract: the parts that it tests are together what it decides. Assumes nothing.
 use mathlib.Core.Path.{◌≡◌, sym, ap₂, subst}
 use mathlib.Core.Bool.{Bool}
 use mathlib.Core.List.{List}
@@ -12,8 +12,8 @@ use Rattle.store_check.specs.Laid.{Paths, Trees}
 use Rattle.store_check.specs.declared.runs.Runs.{Runs}
 use Rattle.store_check.proofs.Deciding.{refused}
 use Rattle.store_check.proofs.LaidLaws.{Lengths, lays, few_entries, few_names, its_lengths, its_trees, its_paths}
-use Rattle.store_check.proofs.lent.Lent.laid.Goals as goal
-use Rattle.store_check.proofs.lent.Lent.laid.Goals.{then-r-gt-ENTRIES-via-then-r-gt-ENTRIES, then-r-gt-ENTRIES-via-else-r-gt-ENTRIES+then-r-gt-NAME_BYTES, then-r-gt-ENTRIES-via-else-r-gt-ENTRIES+else-r-gt-NAME_BYTES+then-not-blanks, then-r-gt-ENTRIES-via-else-r-gt-ENTRIES+else-r-gt-NAME_BYTES+else-not-blanks+then-not-trees_good, then-r-gt-ENTRIES-via-else-r-gt-ENTRIES+else-r-gt-NAME_BYTES+else-not-blanks+else-not-trees_good+then-not-paths_good}
+use Rattle.store_check.proofs.lent.Shelf.laid.Goals as goal
+use Rattle.store_check.proofs.lent.Shelf.laid.Goals.{then-r-gt-ENTRIES-via-then-r-gt-ENTRIES, then-r-gt-ENTRIES-via-else-r-gt-ENTRIES+then-r-gt-NAME_BYTES, then-r-gt-ENTRIES-via-else-r-gt-ENTRIES+else-r-gt-NAME_BYTES+then-not-blanks, then-r-gt-ENTRIES-via-else-r-gt-ENTRIES+else-r-gt-NAME_BYTES+else-not-blanks+then-not-trees_good, then-r-gt-ENTRIES-via-else-r-gt-ENTRIES+else-r-gt-NAME_BYTES+else-not-blanks+else-not-trees_good+then-not-paths_good}
 
 -- the runs are those of the store
 module _ (s : Runs) (lens bytes : List ℕ) (used : ℕ) (e : (s.lens.now ≡ lens) × (s.bytes.now ≡ bytes) × (s.used ≡ used)) where
