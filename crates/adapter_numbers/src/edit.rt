@@ -84,5 +84,5 @@ pub fn cursor_at(s: &mut Store<'_>, order: &[u64], table: Table<'_>, path: &[u8]
     ensures lent { SameLent s.old s.new }
 {
     let opened = editor::cursor::cursor_at(s, order, table, path);
-    number(opened.map(|_| ()))
+    number(opened.map(|_| ()).map_err(|unopened| unopened.refusal))
 }

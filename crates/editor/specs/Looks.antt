@@ -8,6 +8,7 @@ use Rattle.model.specs.Lookup as model
 use Rattle.store_slots.specs.View.{slots_of, gather, SlotIs}
 use Rattle.editor.specs.Lent.{Lent, Good, viewed}
 use Rattle.editor.specs.declared.cursor.Cursor.{Cursor}
+use Rattle.editor.specs.declared.cursor.Unopened.{Unopened}
 use Rattle.editor_terms.specs.Answers.{refusal_number}
 use Rattle.editor_terms.specs.declared.refusal.Refusal.{Refusal}
 
@@ -37,6 +38,6 @@ unfoldable pub cursor_at : Bytes → Cursor
 cursor_at p = record { prefix = p ++ replicate (1024 - length p) 0; len = length p }
 
 -- the number of the opening of a cursor
-abbrev pub opened_number : Result Cursor Refusal → ℕ
+abbrev pub opened_number : Result Cursor Unopened → ℕ
 opened_number (Ok c) = 0
-opened_number (Err r) = refusal_number r
+opened_number (Err u) = refusal_number u.refusal

@@ -1,5 +1,5 @@
 // A cursor is a prefix by value: the calls below it take its bytes.
-ghost use Rattle.std.specs.Prelude.{◌≡◌, [], ◌≤◌, length, take, IfOk};
+ghost use Rattle.std.specs.Prelude.{◌≡◌, [], ◌≤◌, length, take, IfOk, IfErr};
 ghost use Rattle.model.specs.Formats.{sha1};
 ghost use Rattle.model.specs.Calls as model;
 ghost use Rattle.store_slots.specs.Stores.{SameLent};
@@ -50,18 +50,31 @@ pub fn sound(cursor: Cursor) -> Cursor
     at(b"\0")
 }
 
+// What an opening that is refused gives: why it is refused, and a cursor, which stands at the root.
+#[derive(Drop)]
+pub struct Unopened {
+    pub refusal: Refusal,
+    pub cursor: Cursor,
+}
+
 // Opens a cursor at a path, where a tree is then cached.
 pub fn cursor_at(
     s: &mut Store<'_>,
     order: &[u64],
     table: Table<'_>,
     path: &[u8],
-) -> Result<Cursor, Refusal>
+) -> Result<Cursor, Unopened>
     ensures done { Does (model.opened sha1 (table_in table.entry) path.now) (lent_in s.old order.now) (opened_number result) (lent_in s.new order.now) }
     ensures cursor { IfOk result (λ c. (prefix_of c ≡ path.now) × (c ≡ cursor_at path.now)) }
+    ensures root { IfErr result (λ u. (prefix_of u.cursor ≡ []) × (u.cursor ≡ cursor_at [])) }
     ensures lent { SameLent s.old s.new }
 {
     let edit = Edit::Upsert(EntryKind::Tree, Id::NULL);
-    crate::edit::edit(s, order, table, b"", path, edit, true)?;
-    Ok(at(path))
+    match crate::edit::edit(s, order, table, b"", path, edit, true) {
+        Ok(()) => Ok(at(path)),
+        Err(refusal) => Err(Unopened {
+            refusal,
+            cursor: to_cursor(),
+        }),
+    }
 }

@@ -6,7 +6,7 @@ use mathlib.Core.List.{[]}
 use mathlib.Core.Option.{Option, none, some}
 use native.Mathlib.Omega.{arith}
 use lib.Dec.{eqb}
-use Rattle.std.specs.Prelude.{Some, None, Result, Ok, Err, IfOk, Option as Opt}
+use Rattle.std.specs.Prelude.{Some, None, Result, Ok, Err, IfOk, IfErr, Option as Opt}
 use Rattle.model.specs.Bytes.{Bytes}
 use Rattle.model.specs.Map.{find, is_some}
 use Rattle.model.specs.Tree.{TREE, Tree, Entry, null}
@@ -39,6 +39,7 @@ use Rattle.editor.specs.Lent.{Lent, Good, viewed, Does}
 use Rattle.editor.specs.Looks.{Looks, cursor_at, opened_number}
 use Rattle.editor.specs.Roots.{Makes}
 use Rattle.editor.specs.declared.cursor.Cursor.{Cursor}
+use Rattle.editor.specs.declared.cursor.Unopened.{Unopened}
 use Rattle.editor.proofs.SameAnswers.{Same, same_look, same_does, same_makes}
 use Rattle.editor.proofs.LookLaws.{refusal_of, looked_low}
 use Rattle.editor_write.proofs.Theorems.{viewed_valid}
@@ -198,19 +199,19 @@ pub one_answer : (x : Public) (s : Lent) (k k' : Told) (q q' : Lent) → Says x 
 one_answer (new raw) = makes_one raw
 one_answer (call x) = does_one (does x) (not_11 x)
 
-one_opened : (path : Bytes) (r r' : Result Cursor Refusal) → (opened_number r ≡ 11 → ⊥) → opened_number r ≡ opened_number r' →
-    IfOk r (λ c. c ≡ cursor_at path) → IfOk r' (λ c. c ≡ cursor_at path) → r ≡ r'
-one_opened path (Ok c) (Ok c') h e t t' = ap Ok (t ∙ sym t')
-one_opened path (Ok c) (Err x') h e t t' = absurd (not_0 x' (sym e))
-one_opened path (Err x) (Ok c') h e t t' = absurd (not_0 x e)
-one_opened path (Err x) (Err x') h e t t' = ap Err (one_refusal x x' h e)
+one_opened : (path : Bytes) (r r' : Result Cursor Unopened) → (opened_number r ≡ 11 → ⊥) → opened_number r ≡ opened_number r' →
+    IfOk r (λ c. c ≡ cursor_at path) → IfOk r' (λ c. c ≡ cursor_at path) → IfErr r (λ u. u.cursor ≡ cursor_at []) → IfErr r' (λ u. u.cursor ≡ cursor_at []) → r ≡ r'
+one_opened path (Ok c) (Ok c') h e t t' o o' = ap Ok (t ∙ sym t')
+one_opened path (Ok c) (Err u') h e t t' o o' = absurd (not_0 u'.refusal (sym e))
+one_opened path (Err u) (Ok c') h e t t' o o' = absurd (not_0 u.refusal e)
+one_opened path (Err u) (Err u') h e t t' o o' = ap₂ (λ (x : Refusal) (c : Cursor). Err (record { refusal = x; cursor = c })) (one_refusal u.refusal u'.refusal h e) (o ∙ sym o')
 
--- and the cursors of an opening are equal, every byte
-pub one_opening : (T : Table) (path : Bytes) (s : Lent) (r r' : Result Cursor Refusal) (q q' : Lent) → Opens T path s r q → Opens T path s r' q' →
+-- and the cursors of an opening are equal, every byte, also where it is refused
+pub one_opening : (T : Table) (path : Bytes) (s : Lent) (r r' : Result Cursor Unopened) (q q' : Lent) → Opens T path s r q → Opens T path s r' q' →
     (r ≡ r') × Same (opened_number r) q (opened_number r') q'
 one_opening T path s r r' q q' o o' =
     let z : Same (opened_number r) q (opened_number r') q' = same_does (opened sha1 T path) s (opened_number r) (opened_number r') q q' o.store o'.store in
-    (one_opened path r r' (does_not (opened sha1 T path) (opened_not T path) s (opened_number r) q o.store) z.number o.there o'.there, z)
+    (one_opened path r r' (does_not (opened sha1 T path) (opened_not T path) s (opened_number r) q o.store) z.number o.there o'.there o.root o'.root, z)
 
 -- ---- lookups
 

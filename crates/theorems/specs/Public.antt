@@ -1,5 +1,5 @@
 -- The public calls that change a store, each with what it is given, and what its contract says of it, in the contract's words. Assumes nothing.
-use Rattle.std.specs.Prelude.{ℕ, ◌≡◌, Bool, List, [], ◌∷◌, Result, IfOk}
+use Rattle.std.specs.Prelude.{ℕ, ◌≡◌, Bool, List, [], ◌∷◌, Result, IfOk, IfErr}
 use Rattle.model.specs.Bytes.{Bytes}
 use Rattle.model.specs.Table.{Table}
 use Rattle.model.specs.Editor.{from_root, from_cursor}
@@ -17,6 +17,7 @@ use Rattle.editor.specs.Lent.{Lent, Does}
 use Rattle.editor.specs.Looks.{cursor_at, opened_number}
 use Rattle.editor.specs.Roots.{Makes}
 use Rattle.editor.specs.declared.cursor.Cursor.{Cursor}
+use Rattle.editor.specs.declared.cursor.Unopened.{Unopened}
 use Rattle.editor_write.specs.Requests.{answer_of, len_of, place_of, Requests}
 use Rattle.editor_write.specs.declared.request.Asked.{Asked}
 
@@ -59,10 +60,11 @@ Made [] (n ∷ ns) s q = ⊥
 Made (x ∷ xs) [] s q = ⊥
 Made (x ∷ xs) (n ∷ ns) s q = (t : Lent) × Says x s n t × Made xs ns t q
 
--- the opening of a cursor gives the cursor too where it is done, at the path
-pub record Opens (T : Table) (path : Bytes) (s : Lent) (r : Result Cursor Refusal) (q : Lent) : Type 0 where
+-- the opening of a cursor gives the cursor too: at the path where it is done, at the root where it is not
+pub record Opens (T : Table) (path : Bytes) (s : Lent) (r : Result Cursor Unopened) (q : Lent) : Type 0 where
   pub store : Does (model.opened sha1 T path) s (opened_number r) q
   pub there : IfOk r (λ c. c ≡ cursor_at path)
+  pub root : IfErr r (λ u. u.cursor ≡ cursor_at [])
 
 -- reading the request of a store, into an output that was `before` and is `after`
 abbrev pub RequestSays : Lent → Result Asked Refusal → Bytes → Bytes → Type 0

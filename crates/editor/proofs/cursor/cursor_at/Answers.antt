@@ -3,23 +3,22 @@ use mathlib.Core.Path.{refl, sym, ap, ◌∙◌}
 use mathlib.Core.Bool.{true}
 use Rattle.editor_terms.specs.Tables.{table_in}
 use Rattle.editor.specs.Looks.{cursor_at}
-use Rattle.editor.proofs.LookLaws.{passed_on}
 use Rattle.editor.proofs.CursorLaws.{prefix_within, standing_at}
 use Rattle.editor.proofs.EditLaws.{opened_short, opened_does}
 use Rattle.editor.proofs.cursor.cursor_at.Goals as goal
 
-pub returns-in_err-edit-clause-done : goal.returns-in_err-edit-clause-done
-returns-in_err-edit-clause-done c =
+pub returns-in-Err-clause-done : goal.returns-in-Err-clause-done
+returns-in-Err-clause-done c =
     let a = c.args in
-    rw (passed_on c.from_residual.result c.from_residual.ensures.1) (opened_does (table_in a.table) a.path.now _ _ _ c.in_err-edit.ensures.done)
+    opened_does (table_in a.table) a.path.now _ _ _ c.in-Err.ensures.done
 
-pub returns-clause-done : goal.returns-clause-done
-returns-clause-done c =
+pub returns-in-Ok-clause-done : goal.returns-in-Ok-clause-done
+returns-in-Ok-clause-done c =
     let a = c.args in
-    opened_does (table_in a.table) a.path.now _ _ _ c.in_ok-edit.ensures.done
+    opened_does (table_in a.table) a.path.now _ _ _ c.in-Ok.ensures.done
 
-pub returns-clause-cursor : goal.returns-clause-cursor
-returns-clause-cursor c =
+pub returns-in-Ok-clause-cursor : goal.returns-in-Ok-clause-cursor
+returns-in-Ok-clause-cursor c =
     let a = c.args in
-    let s = standing_at a.path.now (opened_short (table_in a.table) _ true a.path.now _ _ _ c.in_ok-edit.ensures.done refl) in
+    let s = standing_at a.path.now (opened_short (table_in a.table) _ true a.path.now _ _ _ c.in-Ok.ensures.done refl) in
     (sym (prefix_within c.at.result c.at.ensures.0) ∙ c.at.ensures.1 ∙ sym s, c.at.ensures.2 ∙ ap cursor_at (sym s))
