@@ -1,5 +1,5 @@
 -- What reading an entry tells of those that the bytes hold. Assumes nothing.
-use Rattle.std.specs.Prelude.{◌≡◌, ℕ, ◌<◌, ◌≤◌, [], Option, Some, None}
+use Rattle.std.specs.Prelude.{◌≡◌, ℕ, ◌<◌, ◌≤◌, [], Option, Some, None, Result, Ok, Err, Bool, false}
 use Rattle.std.proofs.Math.Option as math
 use Rattle.std.proofs.Math.Option.{some}
 use Rattle.model.specs.Tree.{Entry, Tree, is_tree}
@@ -15,7 +15,17 @@ pub record Reads (held : ℕ → math.Option Tree) (end at : ℕ) (key : Key) (n
   pub forward : at < next
   pub inside : next ≤ end
 
--- an entry is read, or there is none: the bytes end there, or what stands there is no entry
+-- an entry is read, or there is none
 abbrev pub ReadsAs : (ℕ → math.Option Tree) → ℕ → ℕ → Option (Key × ℕ) → Type 0
 ReadsAs held end at (Some (key, next)) = Reads held end at key next
-ReadsAs held end at None = (t : Tree) → held at ≡ some t → (t ≡ []) × (end ≤ at)
+ReadsAs held end at None = (t : Tree) → held at ≡ some t → t ≡ []
+
+-- the same; where there is none, it may be said that there is damage, but only if the bytes from there on are no entries to their end
+abbrev pub NextAs : (ℕ → math.Option Tree) → ℕ → ℕ → Result (Key × ℕ) Bool → Type 0
+NextAs held end at (Ok (key, next)) = Reads held end at key next
+NextAs held end at (Err damaged) = (t : Tree) → held at ≡ some t → (t ≡ []) × (damaged ≡ false)
+
+-- an entry is read, or there is none: the bytes end there, or what stands there is no entry
+abbrev pub ReadsTo : (ℕ → math.Option Tree) → ℕ → ℕ → Option (Key × ℕ) → Type 0
+ReadsTo held end at (Some (key, next)) = Reads held end at key next
+ReadsTo held end at None = (t : Tree) → held at ≡ some t → (t ≡ []) × (end ≤ at)

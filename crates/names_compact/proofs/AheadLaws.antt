@@ -11,7 +11,7 @@ use lib.Seq.{take-take}
 use borrow.Author.Tests.{ne_eqb, ltb-true, ltb-false}
 use Rattle.model.specs.Bytes.{Bytes}
 use Rattle.model.specs.Tree.{is_tree, good_name}
-use Rattle.names.specs.Check.{size_of, Lower, plain, FitsIs}
+use Rattle.names.specs.Check.{size_of, Lower, plain, FitsIs, Checking}
 use Rattle.names.specs.Eight.{number, bytes_of, LowAt}
 use Rattle.names_compact.specs.Judge.{end_at, entry_held, held_at, compact_tree, Head, name_before, tree_before, Reached}
 use Rattle.names.proofs.EightLaws.{lower_first, lower_at, number_same, eight_more}
@@ -41,6 +41,29 @@ module _ {p n : Bytes} {x y : ℕ} (hp : Head p x) (hn : Head n y) (low : (i : �
   pub ahead_past : (k : ℕ) → k + 8 ≤ length p → length p ≡ length n → take k p ≡ take k n → number 0 (take 8 (drop k p)) < number 0 (take 8 (drop k n)) → Lower p n
   ahead_past k h e q t = lower_at k p n h (omega arith) low q t
 
+-- a check of the bytes of a tree: it begins, and an entry more is read that may follow
+pub reach_begin : (b : Bytes) (w : ℕ) (prev : Bytes) → prev ≡ [] → Checking (size_of (compact_tree w b)) (length b) (held_at b w 0) 0 0 0 prev false
+reach_begin b w prev e = check_begin w (length b) (ap size_of (compact_is w b)) (λ ts q. (held_packs b w ts q).1) e
+
+pub size_same : {b d : Bytes} {w v : ℕ} → b ≡ d → w ≡ v → size_of (compact_tree w b) ≡ size_of (compact_tree v d)
+size_same e f = rw (e, f)
+
+module _ (b : Bytes) (w : ℕ) {at n k : ℕ} {prev name : Bytes} {prevTree tree : Bool} (s : Checking (size_of (compact_tree w b)) (length b) (held_at b w at) at n k prev prevTree)
+    {next : ℕ} (e : end_at b w at ≡ some next) (en : name ≡ (entry_held b w at).name) (et : tree ≡ is_tree (entry_held b w at).mode) where
+  module _ {ok : Bool} (fits : FitsIs prev prevTree name tree (held_at b w next) ok) where
+    pub reach_more : ok ≡ true → Checking (size_of (compact_tree w b)) (length b) (held_at b w next) next (n + 1) (k + length name) name tree
+    reach_more o = check_more s (whole_begins b w at e) en et fits (whole_reach b w at e en) (ends b w at e).inside o
+
+    pub reach_broken : ok ≡ false → none ≡ size_of (compact_tree w b)
+    reach_broken o = check_broken s (whole_begins b w at e) en et fits o
+
+  -- a name that comes after the one before by a lower byte
+  pub reach_ahead : length name ≤ 255 → 8 ≤ length name → Lower prev name → plain name ≡ true →
+      Checking (size_of (compact_tree w b)) (length b) (held_at b w next) next (n + 1) (k + length name) name tree
+  reach_ahead few more l p =
+      let good : good_name name ≡ true = good_is name (λ z. omega arith) few ∙ p in
+      reach_more (fit_apart (record { is = lower_apart l s.clear good prevTree tree }) refl) refl
+
 -- The entry before a place.
 module _ (b : Bytes) (w prev at : ℕ) where
   pub before_none : at ≡ 0 → (name_before b w prev at ≡ []) × (tree_before b prev at ≡ false)
@@ -53,43 +76,41 @@ module _ (b : Bytes) (w prev at : ℕ) where
       let e : eqb at 0 ≡ false = ne_eqb at 0 (λ q. omega (arith, h, q)) in
       (rw e, rw e)
 
--- a check of the bytes of a tree: it begins, and an entry more is read that may follow
-pub reach_begin : (b : Bytes) (w : ℕ) → Reached b w 0 0 0 0
-reach_begin b w =
+-- the same of a check that carries places: it begins, and an entry more is read that may follow
+pub reached_begin : (b : Bytes) (w : ℕ) → Reached b w 0 0 0 0
+reached_begin b w =
     let x = before_none b w 0 0 refl in
     record {
       back = λ h. absurd (omega (arith, h));
-      checking = rw x.1 (check_begin w (length b) (ap size_of (compact_is w b)) (λ ts q. (held_packs b w ts q).1) x.0);
+      checking = rw x.1 (reach_begin b w (name_before b w 0 0) x.0);
     }
-
-pub size_same : {b d : Bytes} {w v : ℕ} → b ≡ d → w ≡ v → size_of (compact_tree w b) ≡ size_of (compact_tree v d)
-size_same e f = rw (e, f)
 
 module _ (b : Bytes) (w : ℕ) {at prev n k : ℕ} (s : Reached b w at prev n k) {next : ℕ} (e : end_at b w at ≡ some next)
     {name : Bytes} {tree : Bool} (en : name ≡ (entry_held b w at).name) (et : tree ≡ is_tree (entry_held b w at).mode) where
+  past : Checking (size_of (compact_tree w b)) (length b) (held_at b w next) next (n + 1) (k + length name) name tree → Reached b w next at (n + 1) (k + length name)
+  past c =
+      let x = before_some b w at next (omega (arith, (ends b w at e).is)) in
+      record { back = λ h. e; checking = rw (x.0 ∙ sym en, x.1 ∙ sym et) c }
+
   module _ {p : Bytes} {pt : Bool} (ep : p ≡ name_before b w prev at) (ept : pt ≡ tree_before b prev at) {ok : Bool} (fits : FitsIs p pt name tree (held_at b w next) ok) where
     fits_here : FitsIs (name_before b w prev at) (tree_before b prev at) name tree (held_at b w next) ok
     fits_here = subst (λ (x : Bytes). FitsIs x (tree_before b prev at) name tree (held_at b w next) ok) ep (subst (λ (x : Bool). FitsIs p x name tree (held_at b w next) ok) ept fits)
 
-    pub reach_more : ok ≡ true → Reached b w next at (n + 1) (k + length name)
-    reach_more o =
-        let y = ends b w at e in
-        let x = before_some b w at next (omega (arith, y.is)) in
-        let c = check_more s.checking (whole_begins b w at e) en et fits_here (whole_reach b w at e en) y.inside o in
-        record { back = λ h. e; checking = rw (x.0 ∙ sym en, x.1 ∙ sym et) c }
+    pub reached_more : ok ≡ true → Reached b w next at (n + 1) (k + length name)
+    reached_more o = past (reach_more b w s.checking e en et fits_here o)
 
-    pub reach_broken : ok ≡ false → none ≡ size_of (compact_tree w b)
-    reach_broken o = check_broken s.checking (whole_begins b w at e) en et fits_here o
+    pub reached_broken : ok ≡ false → none ≡ size_of (compact_tree w b)
+    reached_broken o = reach_broken b w s.checking e en et fits_here o
 
   -- a name that comes after the one before by a lower byte, or stands first
-  pub reach_ahead : length name ≤ 255 → 8 ≤ length name → (0 < at → Lower (name_before b w prev at) name) → plain name ≡ true → Reached b w next at (n + 1) (k + length name)
-  reach_ahead few more l p = reach_more refl refl (go (ltb 0 at) refl) refl
+  pub reached_ahead : length name ≤ 255 → 8 ≤ length name → (0 < at → Lower (name_before b w prev at) name) → plain name ≡ true → Reached b w next at (n + 1) (k + length name)
+  reached_ahead few more l p = past (go (ltb 0 at) refl)
     where
       good : good_name name ≡ true
       good = good_is name (λ z. omega (arith, z, more)) few ∙ p
 
-      go : (t : Bool) → ltb 0 at ≡ t → FitsIs (name_before b w prev at) (tree_before b prev at) name tree (held_at b w next) true
-      go true q = fit_apart (record { is = lower_apart (l (ltb-true 0 at q)) s.checking.clear good (tree_before b prev at) tree }) refl
+      go : (t : Bool) → ltb 0 at ≡ t → Checking (size_of (compact_tree w b)) (length b) (held_at b w next) next (n + 1) (k + length name) name tree
+      go true q = reach_ahead b w s.checking e en et few more (l (ltb-true 0 at q)) p
       go false q =
           let x = before_none b w prev at (omega (arith, ltb-false 0 at q)) in
-          fit_first x.0 x.1 good
+          reach_more b w s.checking e en et (fit_first x.0 x.1 good) refl

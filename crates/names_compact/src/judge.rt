@@ -5,7 +5,7 @@ ghost use Rattle.names.specs.Check.{size_of, TwinIs, Lower, plain, FitsIs};
 ghost use Rattle.model.specs.Tree.{is_tree};
 ghost use Rattle.names_compact.specs.Judge.{end_as, end_at, entry_held, held_at, compact_tree, Head, name_before, tree_before, Reached};
 
-use names::later::Entries;
+use names::later::Bounded;
 use names::order::Key;
 use names::tree::Size;
 
@@ -45,7 +45,7 @@ pub struct Packed<'a> {
     width: usize,
 }
 
-impl<'a> Entries for Packed<'a> {
+impl<'a> Bounded for Packed<'a> {
     ghost use Rattle.std.specs.Prelude.{length};
     ghost use Rattle.names_compact.specs.Judge.{held_at};
 

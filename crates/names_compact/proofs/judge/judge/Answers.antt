@@ -7,7 +7,7 @@ use Rattle.std.specs.Prelude.{IfSome}
 use Rattle.names.specs.Answers.{checked_as}
 use Rattle.names.proofs.FitLaws.{check_end, check_damaged}
 use Rattle.names_compact.specs.Judge.{Head}
-use Rattle.names_compact.proofs.AheadLaws.{before_some, size_same, reach_more, reach_broken}
+use Rattle.names_compact.proofs.AheadLaws.{before_some, size_same, reached_more, reached_broken}
 use Rattle.names_compact.proofs.JudgeLaws.{ends, read_whole, read_damaged, held_end}
 use Rattle.names_compact.proofs.judge.judge.Goals as goal
 
@@ -41,13 +41,13 @@ returns-then-not-may_follow c =
     let i = c.loop-check.invariant in
     let e = c.key_held-key.ensures in
     let d = c.before-in-loop-check.ensures in
-    reach_broken _ _ c.run_past-check.result.reached (read_whole _ _ _ c.end_of.ensures c.in_ok-next.was) e.name e.tree d.name d.tree c.may_follow.ensures c.if-not-may_follow.true ∙ size_same (p.tree ∙ i.tree) (p.width ∙ i.width)
+    reached_broken _ _ c.run_past-check.result.reached (read_whole _ _ _ c.end_of.ensures c.in_ok-next.was) e.name e.tree d.name d.tree c.may_follow.ensures c.if-not-may_follow.true ∙ size_same (p.tree ∙ i.tree) (p.width ∙ i.width)
 
 pub past-check-requires : goal.past-check-requires
 past-check-requires c =
     let e = c.key_held-key.ensures in
     let d = c.before-in-loop-check.ensures in
-    reach_more _ _ c.run_past-check.result.reached (read_whole _ _ _ c.end_of.ensures c.in_ok-next.was) e.name e.tree d.name d.tree c.may_follow.ensures c.if-not-may_follow.false
+    reached_more _ _ c.run_past-check.result.reached (read_whole _ _ _ c.end_of.ensures c.in_ok-next.was) e.name e.tree d.name d.tree c.may_follow.ensures c.if-not-may_follow.false
 
 pub loop-check-smaller : goal.loop-check-smaller
 loop-check-smaller c =

@@ -4,7 +4,7 @@ use lib.ListN.{length}
 use native.Mathlib.Omega.{arith}
 use Rattle.model.specs.Bytes.{Bytes}
 use Rattle.names_compact.specs.Judge.{Head}
-use Rattle.names_compact.proofs.AheadLaws.{before_some, reach_ahead}
+use Rattle.names_compact.proofs.AheadLaws.{before_some, reached_ahead}
 use Rattle.names_compact.proofs.JudgeLaws.{ends, read_whole}
 use Rattle.names_compact.proofs.judge.Check.run_on.Goals as goal
 
@@ -20,7 +20,7 @@ is_behind-requires c = record { last = c.loop-next.invariant.head; head = c.in-S
 pub past-run-requires : goal.past-run-requires
 past-run-requires c =
     let k = c.key_held.ensures in
-    reach_ahead _ _ c.loop-next.run.reached (read_whole _ _ _ c.end_of.ensures c.in-Some.is) k.name k.tree k.short c.in-Some-head.ensures.long (c.is_behind.ensures c.if-not-is_behind.false) (sym c.if-not-plain_name.ensures)
+    reached_ahead _ _ c.loop-next.run.reached (read_whole _ _ _ c.end_of.ensures c.in-Some.is) k.name k.tree k.short c.in-Some-head.ensures.long (c.is_behind.ensures c.if-not-is_behind.false) (sym c.if-not-plain_name.ensures)
 
 pub loop-next-smaller : goal.loop-next-smaller
 loop-next-smaller c =

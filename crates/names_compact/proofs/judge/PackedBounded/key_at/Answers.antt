@@ -1,7 +1,7 @@
--- `names_compact::judge::PackedEntries::key_at` meets its contract: it reads the entry that the bytes hold there. Assumes nothing.
+-- `names_compact::judge::PackedBounded::key_at` meets its contract: it reads the entry that the bytes hold there. Assumes nothing.
 use native.Mathlib.Omega.{arith}
 use Rattle.names_compact.proofs.JudgeLaws.{ends, read_whole, read_none, whole_begins}
-use Rattle.names_compact.proofs.judge.PackedEntries.key_at.Goals as goal
+use Rattle.names_compact.proofs.judge.PackedBounded.key_at.Goals as goal
 
 pub key_held-requires : goal.key_held-requires
 key_held-requires c = read_whole _ _ _ c.end_of.ensures c.in_ok-next.was

@@ -1,0 +1,2 @@
+-- Definitions that the contracts of `test_later` cite.
+pub mod Listed
